@@ -43,7 +43,7 @@ pass_short x =
     let raw : List ℕ = map (λ (b : ℕ). b % 256) (numbers_at (state_after x) n) in
     omega (arith, ended_long (without_markers 0 raw), marked_long 0 raw, length-map (numbers_at (state_after x) n) (λ (b : ℕ). b % 256), numbers_long (state_after x) n)
 
-passes_short : (x n : ℕ) → length (passes_bytes x n) ≤ n * 23
+pub passes_short : (x n : ℕ) → length (passes_bytes x n) ≤ n * 23
 passes_short x zero = omega arith
 passes_short x (suc n) = omega (arith, length-append (pass_bytes x) (passes_bytes (past_pass x) n), pass_short x, passes_short (past_pass x) n)
 
@@ -77,7 +77,7 @@ passes_clear x zero = λ e. omega arith
 passes_clear x (suc n) = append_clean 0 (pass_bytes x) (passes_bytes (past_pass x) n) (one_clear x) (passes_clear (past_pass x) n)
 
 -- ---- the pieces of layers
-first_next : (n a : ℕ) → first_pass n a + passes_in n a ≡ first_pass n (a + 1)
+pub first_next : (n a : ℕ) → first_pass n a + passes_in n a ≡ first_pass n (a + 1)
 unfolding passes_in
 first_next n a = omega (arith, first_grows n a)
 
@@ -94,7 +94,7 @@ unfolding layer_pieces
 layer_some y n a ne = cond-false (passes_in n a == 0) [] (piece_in y n a ∷ []) (ne_eqb (passes_in n a) 0 ne)
 
 -- what holds of the pieces from each layer on
-over_layers : (P : ℕ → List PieceValue → Type 0) (y n : ℕ) → P 12 [] → ((a : ℕ) (qs : List PieceValue) → a < 12 → passes_in n a ≡ 0 → P (a + 1) qs → P a qs)
+pub over_layers : (P : ℕ → List PieceValue → Type 0) (y n : ℕ) → P 12 [] → ((a : ℕ) (qs : List PieceValue) → a < 12 → passes_in n a ≡ 0 → P (a + 1) qs → P a qs)
     → ((a : ℕ) (qs : List PieceValue) → a < 12 → 1 ≤ passes_in n a → P (a + 1) qs → P a (piece_in y n a ∷ qs))
     → (k a : ℕ) → a + k ≡ 12 → P a (joined (layer_pieces y n) a 12)
 over_layers P y n none skip more zero a e =
@@ -109,25 +109,25 @@ over_layers P y n none skip more (suc k) a e =
       | inr ne ↦ subst (P a) (sym (whole ∙ ap (λ (qs : List PieceValue). qs ++ rest) (layer_some y n a ne))) (more a rest (omega arith) (omega arith) later)
     ]
 
-abbrev parts_with : ℕ → List PieceValue → List LeafPart
+abbrev pub parts_with : ℕ → List PieceValue → List LeafPart
 parts_with j qs = map (leaf_part_of j) qs
 
 -- one part or none
-record IsOnePart (p : HeaderPart) (ps : List HeaderPart) : Type 0 where
-  one : ps ≡ p ∷ []
-  some : 1 ≤ p.passes
-  few : p.passes ≤ 37
+pub record IsOnePart (p : HeaderPart) (ps : List HeaderPart) : Type 0 where
+  pub one : ps ≡ p ∷ []
+  pub some : 1 ≤ p.passes
+  pub few : p.passes ≤ 37
 
-abbrev HasFew : List HeaderPart → Type 0
+abbrev pub HasFew : List HeaderPart → Type 0
 HasFew ps = (ps ≡ []) ⊎ ((p : HeaderPart) × IsOnePart p ps)
 
 -- what is known of the pieces from a layer on
-record Fit (j n a : ℕ) (qs : List PieceValue) : Type 0 where
-  runs : (l : ℕ) → l ≤ a → AreRuns 12 j l (first_pass n a) (parts_with j qs)
-  sum : first_pass n a + all_passes (parts_with j qs) ≡ n
-  few : (layer : ℕ) → HasFew (parts_in layer (parts_with j qs))
-  short : HasShort (parts_with j qs)
-  clear : AllByRecursion (λ (q : PieceValue). HasNoMarker 0 q.bytes) qs
+pub record Fit (j n a : ℕ) (qs : List PieceValue) : Type 0 where
+  pub runs : (l : ℕ) → l ≤ a → AreRuns 12 j l (first_pass n a) (parts_with j qs)
+  pub sum : first_pass n a + all_passes (parts_with j qs) ≡ n
+  pub few : (layer : ℕ) → HasFew (parts_in layer (parts_with j qs))
+  pub short : HasShort (parts_with j qs)
+  pub clear : AllByRecursion (λ (q : PieceValue). HasNoMarker 0 q.bytes) qs
 
 fit_none : (j n : ℕ) → Fit j n 12 []
 fit_none j n = record { runs = λ l le. tt; sum = omega (arith, first_all n); few = λ layer. inl refl; short = tt; clear = tt }
@@ -179,7 +179,7 @@ count_few x =
     let left : number_at (state_after x) % m < m = grind arith in
     (below, omega arith, omega arith)
 
-fit_drawn : (j x : ℕ) → Fit j (pass_count x) 0 (drawn_at x).pieces
+pub fit_drawn : (j x : ℕ) → Fit j (pass_count x) 0 (drawn_at x).pieces
 unfolding drawn_at
 fit_drawn j x = fit_all j (first_state x) (pass_count x) (count_few x).2
 

@@ -56,7 +56,7 @@ pub one_tile : (w h : ℕ) → AreSizes w h → 0 < tile_count (canvas_made w h)
 one_tile w h sizes = omega (arith, count_one w h sizes)
 
 -- ---- spans that begin at 0 and end at 4,096 or before
-abbrev IsSmall : Span → Type 0
+abbrev pub IsSmall : Span → Type 0
 IsSmall s = s.high ≤ 4096
 
 pub record IsWhole (s : Span) : Type 0 where
@@ -103,10 +103,10 @@ across_15 r le = ap (λ (n : ℕ). n % 16) (exponents r le)
 down_15 : (r : ℕ) → r ≤ 5 → exponent_down shape_made r ≡ 15
 down_15 r le = ap (λ (n : ℕ). n / 16) (exponents r le)
 
-block_across_6 : (r : ℕ) → r ≤ 5 → block_across shape_made r ≡ 6
+pub block_across_6 : (r : ℕ) → r ≤ 5 → block_across shape_made r ≡ 6
 block_across_6 r le = omega (arith, across_15 r le)
 
-block_down_6 : (r : ℕ) → r ≤ 5 → block_down shape_made r ≡ 6
+pub block_down_6 : (r : ℕ) → r ≤ 5 → block_down shape_made r ≡ 6
 block_down_6 r le = omega (arith, down_15 r le)
 
 pub shape_in_range : ShapeInRange shape_made
@@ -135,7 +135,7 @@ pub record IsWholeRect (t : Rect) : Type 0 where
   pub x : IsWhole t.x
   pub y : IsWhole t.y
 
-component_whole : (t : Rect) → IsWholeRect t → IsWholeRect (component_rect t shape_made)
+pub component_whole : (t : Rect) → IsWholeRect t → IsWholeRect (component_rect t shape_made)
 unfolding component_rect
 component_whole t is = record { x = scaled_whole t.x 1 (omega arith) is.x; y = scaled_whole t.y 1 (omega arith) is.y }
 
@@ -191,7 +191,7 @@ pub precincts_few : (t : Rect) → IsWholeRect t → component_precincts t shape
 unfolding component_precincts
 precincts_few t is = sum_few (precinct_count t shape_made) 1 6 (λ r lt. omega (arith, one_precinct t r is (omega arith)))
 
-whole_made : (w h : ℕ) → AreSizes w h → IsWholeRect (tile_rect (canvas_made w h) 0)
+pub whole_made : (w h : ℕ) → AreSizes w h → IsWholeRect (tile_rect (canvas_made w h) 0)
 whole_made w h sizes =
     let P : Rect → Type 0 = λ t. IsWholeRect t in
     subst P (sym (rect_made w h sizes)) (record {
@@ -240,7 +240,7 @@ geometry_in_range w h sizes = record {
 }
 
 -- ---- the precincts that are there
-shape_at : (c : ℕ) → c < 3 → slice_index_or shapes_made c no_shape ≡ shape_made
+pub shape_at : (c : ℕ) → c < 3 → slice_index_or shapes_made c no_shape ≡ shape_made
 shape_at zero lt = refl
 shape_at (suc zero) lt = refl
 shape_at (suc (suc zero)) lt = refl

@@ -11,4 +11,6 @@ mod OrderLemmas
 mod FillLemmas
 mod WrittenLemmas
 mod WellLemmas
+mod HeaderBits
+mod ShortLemmas
 mod PlainLemmas

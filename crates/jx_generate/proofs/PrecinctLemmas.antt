@@ -25,7 +25,7 @@ use Rattle.jx_generate.specs.Made.{bands_made, leaf_made, leaves_made}
 use Rattle.jx_generate.proofs.DrawnFits.{drawn_fits, drawn_short}
 use Rattle.jx_generate.proofs.GeometryLemmas.{geometry_in_range, precinct_there}
 
-abbrev cells_13 : Geometry → ℕ → ℕ → List Band → List BandCells
+abbrev pub cells_13 : Geometry → ℕ → ℕ → List Band → List BandCells
 cells_13 g c r bands = map (λ (b : Band). sizes_of (cells_at g c r 0 b) 13) bands
 
 -- ---- the bands
@@ -106,7 +106,7 @@ short_range : (leaf : ℕ → Leafed) → ((j : ℕ) → HasShort (leaf j).parts
 short_range leaf short a zero = tt
 short_range leaf short a (suc n) = (short a, short_range leaf short (a + 1) n)
 
-all_13 : (g : Geometry) (c r : ℕ) (bands : List Band) → AllByRecursion (λ (b : BandCells). b.planes ≡ 13) (cells_13 g c r bands)
+pub all_13 : (g : Geometry) (c r : ℕ) (bands : List Band) → AllByRecursion (λ (b : BandCells). b.planes ≡ 13) (cells_13 g c r bands)
 all_13 g c r [] = tt
 all_13 g c r (b ∷ bands) = (planes_13 (cells_at g c r 0 b), all_13 g c r bands)
 

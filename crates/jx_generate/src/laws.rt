@@ -18,11 +18,15 @@ ghost use Rattle.jx_generate.specs.Made.{body_made, file_made};
 ghost use Rattle.jx_generate.specs.Plain.{IsPlain};
 ghost use Rattle.jx_generate.specs.Reading.{stream_made};
 
-/// A made file of at most 2^28 bytes violates no rule and passes no limit.
+/// A made file has at most 2^28 bytes.
+pub fn made_is_short()
+    ensures { (seed w h : ℕ) → AreSizes w h → length (file_made seed w h) ≤ 2 ^ 28 }
+{}
+
+/// A made file violates no rule and passes no limit.
 pub fn made_is_well_formed()
-    ensures formed { (seed w h : ℕ) → AreSizes w h → length (file_made seed w h) ≤ 2 ^ 28 → IsWellFormed (file_made seed w h) }
-    ensures accepted { (seed w h : ℕ) → AreSizes w h → length (file_made seed w h) ≤ 2 ^ 28
-        → IsAccepted (file_made seed w h) (stream_made w h (length (body_made seed w h))) }
+    ensures formed { (seed w h : ℕ) → AreSizes w h → IsWellFormed (file_made seed w h) }
+    ensures accepted { (seed w h : ℕ) → AreSizes w h → IsAccepted (file_made seed w h) (stream_made w h (length (body_made seed w h))) }
 {}
 
 /// Pass i of n lies in layer 12 * i / n, that is from the first pass of the layer on and below that of the next.

@@ -20,9 +20,6 @@ use crate::picture::Picture;
 use jx_base::NoMemory;
 use std::alloc::Global;
 
-/// The most bytes that tile data may have, so that the file has at most 2^28.
-const MOST: usize = (1 << 28) - 126;
-
 /// The codestream of a seed, for a picture of `width` by `height` samples, each 1 to 4,096.
 ///
 /// For each code-block, in the order of the blocks' numbers, its zero planes are drawn, then how many passes it has, then for each pass
@@ -30,7 +27,7 @@ const MOST: usize = (1 << 28) - 126;
 ///
 /// # Errors
 ///
-/// `NoMemory` where memory is refused; a file of more than 2^28 bytes would be refused so too, but none comes near it.
+/// `NoMemory` where memory is refused. No file has more than 2^28 bytes.
 pub fn make(alloc: Global, seed: u64, width: u32, height: u32) -> Result<Vec<u8>, NoMemory>
     requires wide { 1 ≤ width }
     requires most_wide { width ≤ 4096 }
@@ -43,8 +40,5 @@ pub fn make(alloc: Global, seed: u64, width: u32, height: u32) -> Result<Vec<u8>
     ensures accepted { IfOk result (λ bytes. IsAccepted bytes.items (stream_made width height (length (body_made seed width height)))) }
 {
     let body = Picture::new(alloc, seed, width, height)?.body(alloc)?;
-    if body.len() > MOST {
-        return Err(NoMemory);
-    }
     file(alloc, width, height, &body)
 }

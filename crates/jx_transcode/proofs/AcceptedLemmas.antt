@@ -15,9 +15,10 @@ use Rattle.jx_transcode.specs.declared.status.Status.TheVariants as status
 use Rattle.jx_transcode.proofs.OneVerdictLemmas.{Laws, reads_on}
 use Rattle.jx_transcode.proofs.RefusedLemmas.{limit_seven}
 
--- the law of the generator
-abbrev pub AllAccepted : Type 0
-AllAccepted = (seed w h : ℕ) → AreSizes w h → length (file_made seed w h) ≤ 2 ^ 28 → IsAccepted (file_made seed w h) (stream_made w h (length (body_made seed w h)))
+-- the laws of the generator
+pub record AllAccepted : Type 0 where
+  pub accepted : (seed w h : ℕ) → AreSizes w h → IsAccepted (file_made seed w h) (stream_made w h (length (body_made seed w h)))
+  pub short : (seed w h : ℕ) → AreSizes w h → length (file_made seed w h) ≤ 2 ^ 28
 
 accepted_reads : (b : List ℕ) (s : Stream) (is : IsAccepted b s) → Reads b s is.blocks
 accepted_reads b s is = record { read = is.read; totals = is.totals; gathered = is.gathered }
@@ -25,17 +26,20 @@ accepted_reads b s is = record { read = is.read; totals = is.totals; gathered = 
 sizes_of : (m : Make) → MayBeMade m → AreSizes m.width m.height
 sizes_of m may = record { wide = may.some_width; most_wide = may.few_width; high = may.some_height; most_high = may.few_height }
 
-made_accepted : AllAccepted → (m : Make) → MayBeMade m → length (input_of m) ≤ most_bytes → IsAccepted (input_of m) (stream_made m.width m.height (length (body_made m.seed m.width m.height)))
-made_accepted law m may short = law m.seed m.width m.height (sizes_of m may) short
+made_accepted : AllAccepted → (m : Make) → MayBeMade m → IsAccepted (input_of m) (stream_made m.width m.height (length (body_made m.seed m.width m.height)))
+made_accepted law m may = law.accepted m.seed m.width m.height (sizes_of m may)
+
+pub made_short : AllAccepted → (m : Make) → MayBeMade m → length (input_of m) ≤ most_bytes
+made_short law m may = law.short m.seed m.width m.height (sizes_of m may)
 
 pub no_rule : Laws → AllAccepted → (aim : Aim) (m : Make) (number place : ℕ) → MayBeMade m → Verdict aim (input_of m) (status.Rule number place) → ⊥
 no_rule laws law aim m number place may verdict =
-    let is = made_accepted law m may verdict.0 in
+    let is = made_accepted law m may in
     reads_on laws (input_of m) (stream_made m.width m.height (length (body_made m.seed m.width m.height))) is.blocks (fault.Rule number place) verdict.0 (accepted_reads (input_of m) (stream_made m.width m.height (length (body_made m.seed m.width m.height))) is) verdict.1
 
-pub seven_alone : Laws → AllAccepted → (aim : Aim) (m : Make) (number found : ℕ) → MayBeMade m → length (input_of m) ≤ most_bytes → Verdict aim (input_of m) (status.Limit number found) → number ≡ 7
-seven_alone laws law aim m number found may short (inl (inl long)) = absurd (omega (arith, long.0, short))
-seven_alone laws law aim m number found may short (inl (inr passed)) =
-    let is = made_accepted law m may short in
-    absurd (reads_on laws (input_of m) (stream_made m.width m.height (length (body_made m.seed m.width m.height))) is.blocks (fault.Limit number found) short (accepted_reads (input_of m) (stream_made m.width m.height (length (body_made m.seed m.width m.height))) is) passed.1)
-seven_alone laws law aim m number found may short (inr over) = limit_seven (rule_in aim over.1.stream over.1.blocks) over.1.stream over.1.blocks aim.wanted number found over.1.cause
+pub seven_alone : Laws → AllAccepted → (aim : Aim) (m : Make) (number found : ℕ) → MayBeMade m → Verdict aim (input_of m) (status.Limit number found) → number ≡ 7
+seven_alone laws law aim m number found may (inl (inl long)) = absurd (omega (arith, long.0, made_short law m may))
+seven_alone laws law aim m number found may (inl (inr passed)) =
+    let is = made_accepted law m may in
+    absurd (reads_on laws (input_of m) (stream_made m.width m.height (length (body_made m.seed m.width m.height))) is.blocks (fault.Limit number found) (made_short law m may) (accepted_reads (input_of m) (stream_made m.width m.height (length (body_made m.seed m.width m.height))) is) passed.1)
+seven_alone laws law aim m number found may (inr over) = limit_seven (rule_in aim over.1.stream over.1.blocks) over.1.stream over.1.blocks aim.wanted number found over.1.cause

@@ -26,7 +26,7 @@ use Rattle.jx_transcode.specs.Outcome.{Verdict, most_bytes}
 use Rattle.jx_transcode.specs.Rewritten.{IsBad, IsTooLongAt, IsUnplanned, Reads}
 use Rattle.jx_rounds.specs.Tiles.{IsWrongBlock}
 use Rattle.jx_transcode.specs.declared.status.Status.TheVariants as status
-use Rattle.jx_transcode.proofs.AcceptedLemmas.{AllAccepted}
+use Rattle.jx_transcode.proofs.AcceptedLemmas.{AllAccepted, made_short}
 use Rattle.jx_transcode.proofs.OneVerdictLemmas.{Laws, reads_on}
 use Rattle.jx_transcode.proofs.PlannedMade.{MadeLaws, never_wrong, only_rule}
 
@@ -50,11 +50,14 @@ module _ (laws : Laws) (law : AllAccepted) (made_laws : MadeLaws) (rule : List �
   sizes : AreSizes m.width m.height
   sizes = record { wide = may.some_width; most_wide = may.few_width; high = may.some_height; most_high = may.few_height }
 
-  accepted : length (input_of m) ≤ most_bytes → IsAccepted (input_of m) made
-  accepted short = law m.seed m.width m.height sizes short
+  accepted : IsAccepted (input_of m) made
+  accepted = law.accepted m.seed m.width m.height sizes
+
+  small : length (input_of m) ≤ most_bytes
+  small = made_short law m may
 
   same_stream : (s : Stream) (blocks : List Block) → length (input_of m) ≤ most_bytes → Reads (input_of m) s blocks → s ≡ made
-  same_stream s blocks short reads = laws.one_stream (input_of m) s made reads.read.spelled (accepted short).read.spelled
+  same_stream s blocks short reads = laws.one_stream (input_of m) s made reads.read.spelled accepted.read.spelled
 
   may_be_planned : (s : Stream) (blocks : List Block) → length (input_of m) ≤ most_bytes → Reads (input_of m) s blocks → MayBePlanned made blocks
   may_be_planned s blocks short reads =
@@ -80,12 +83,12 @@ module _ (laws : Laws) (law : AllAccepted) (made_laws : MadeLaws) (rule : List �
           let lacks = without_rule (unplanned.Choice number place) verdict.0 aimed (λ e. cc) is in
           inr (choice_number number place lacks.1, choice_place number place lacks.1, lacks.0)
 
-  pub no_limit : (number found : ℕ) → MayBeAimed aim → length (input_of m) ≤ most_bytes → Verdict aim (input_of m) (status.Limit number found) → ⊥
-  no_limit number found aimed short (inl (inl long)) = absurd (omega (arith, long.0, short))
-  no_limit number found aimed short (inl (inr passed)) =
-      let is : IsAccepted (input_of m) made = accepted short in
-      reads_on laws (input_of m) made is.blocks (fault.Limit number found) short (record { read = is.read; totals = is.totals; gathered = is.gathered }) passed.1
-  no_limit number found aimed short (inr over) = absurd (let lacks = without_rule (unplanned.Limit number found) over.0 aimed (λ e. cc) over.1 in let e = lacks.1 in cc)
+  pub no_limit : (number found : ℕ) → MayBeAimed aim → Verdict aim (input_of m) (status.Limit number found) → ⊥
+  no_limit number found aimed (inl (inl long)) = absurd (omega (arith, long.0, small))
+  no_limit number found aimed (inl (inr passed)) =
+      let is : IsAccepted (input_of m) made = accepted in
+      reads_on laws (input_of m) made is.blocks (fault.Limit number found) small (record { read = is.read; totals = is.totals; gathered = is.gathered }) passed.1
+  no_limit number found aimed (inr over) = absurd (let lacks = without_rule (unplanned.Limit number found) over.0 aimed (λ e. cc) over.1 in let e = lacks.1 in cc)
 
   plain : (s : Stream) (blocks : List Block) → length (input_of m) ≤ most_bytes → Reads (input_of m) s blocks → All IsPlain blocks
   plain s blocks short reads =

@@ -22,7 +22,7 @@ ghost use Rattle.jx_transcode.specs.MakeRun.{aim_made, input_of};
 ghost use Rattle.jx_transcode.specs.Outcome.{Verdict, most_bytes};
 
 use jx_codestream::laws::{one_first, one_stream, violated_or_spelled};
-use jx_generate::laws::{made_blocks_are_plain, made_geometry, made_is_well_formed};
+use jx_generate::laws::{made_blocks_are_plain, made_geometry, made_is_short, made_is_well_formed};
 use jx_jp2::laws::{one_codestream, one_tree, some_codestream, some_tree};
 use jx_plan::laws::{gathered_may_be_planned, groups_are_cut, kept_precincts_fit, one_answer};
 use jx_tier2_reader::laws::{never_both, one_gathering, one_of_both, one_violation};
@@ -104,9 +104,9 @@ pub fn boxes_have_one_verdict()
 /// A generated codestream violates no rule, and passes no limit but that on packets of the output.
 pub fn made_is_accepted()
     ensures rules { (aim : Aim) (m : Make) (number place : ℕ) → MayBeMade m → Verdict aim (input_of m) (status.Rule number place) → ⊥ }
-    ensures limits { (aim : Aim) (m : Make) (number found : ℕ) → MayBeMade m → length (input_of m) ≤ most_bytes
-        → Verdict aim (input_of m) (status.Limit number found) → number ≡ 7 }
+    ensures limits { (aim : Aim) (m : Make) (number found : ℕ) → MayBeMade m → Verdict aim (input_of m) (status.Limit number found) → number ≡ 7 }
 {
+    made_is_short();
     made_is_well_formed();
     one_stream();
     one_first();
@@ -121,12 +121,13 @@ pub fn made_is_accepted()
 /// A generated codestream, with the options of `make` and planners that make 1 to 65,535 layers: no limit is passed, no code-block is wrong, and
 /// no choice is in the way but choice 7 and, where there is no rule of layers, choice 6.
 pub fn made_is_planned()
-    ensures limits { (rule : List ℕ → StreamFacts → Option Rule) (m : Make) (number found : ℕ) → MayBeMade m → MayBeAimed (aim_made rule) → length (input_of m) ≤ most_bytes
+    ensures limits { (rule : List ℕ → StreamFacts → Option Rule) (m : Make) (number found : ℕ) → MayBeMade m → MayBeAimed (aim_made rule)
         → Verdict (aim_made rule) (input_of m) (status.Limit number found) → ⊥ }
     ensures choices { (rule : List ℕ → StreamFacts → Option Rule) (m : Make) (number place : ℕ) → MayBeMade m → MayBeAimed (aim_made rule)
         → Verdict (aim_made rule) (input_of m) (status.Choice number place) → (number ≡ 7) ⊎ ((number ≡ 6) × (place ≡ 0) × HasNoRule (aim_made rule) (input_of m)) }
     ensures blocks { (rule : List ℕ → StreamFacts → Option Rule) (m : Make) (number : ℕ) → MayBeMade m → Verdict (aim_made rule) (input_of m) (status.Block number) → ⊥ }
 {
+    made_is_short();
     made_is_well_formed();
     made_blocks_are_plain();
     made_geometry();

@@ -7,11 +7,19 @@ use Rattle.jx_generate.specs.Headers.{AreSizes}
 use Rattle.jx_generate.specs.Made.{body_made, file_made, file_with}
 use Rattle.jx_generate.specs.Making.{Making}
 use Rattle.jx_generate.specs.Reading.{stream_made}
-use Rattle.jx_generate.proofs.WellLemmas.{body_few, made_accepted, made_formed}
+use Rattle.jx_generate.proofs.ShortLemmas.{body_short, file_short}
+use Rattle.jx_generate.proofs.WellLemmas.{made_accepted, made_formed}
 use Rattle.jx_generate.proofs.make.Goals as goal
 
 abbrev IsMade : ℕ → ℕ → ℕ → Vec ℕ → Type 0
 IsMade seed w h v = v.items ≡ file_made seed w h
+
+pub file-requires-clause-few : goal.file-requires-clause-few
+file-requires-clause-few c =
+    let body : c.deref.result.now ≡ body_made c.args.seed c.args.width c.args.height =
+    c.deref.ensures.value ∙ c.in_ok-body.ensures ∙ ap (λ (m : Making). body_made m.seed m.width m.height) c.in_ok-new.ensures in
+    let sizes : AreSizes c.args.width c.args.height = record { wide = c.requires.wide; most_wide = c.requires.most_wide; high = c.requires.high; most_high = c.requires.most_high } in
+    omega (arith, ap length body, body_short c.args.seed c.args.width c.args.height sizes)
 
 pub returns-clause-made : goal.returns-clause-made
 unfolding file_made
@@ -22,30 +30,19 @@ returns-clause-made c =
 
 pub returns-clause-short : goal.returns-clause-short
 returns-clause-short c =
-    let body : c.in_ok-body.body.items ≡ body_made c.args.seed c.args.width c.args.height =
-    c.in_ok-body.ensures ∙ ap (λ (m : Making). body_made m.seed m.width m.height) c.in_ok-new.ensures in
-    let long : length c.in_ok-body.body.items ≤ 268435330 = omega (arith, c.if-len-gt-MOST.false, c.len.ensures, c.in_ok-body.body.ok.0) in
-    let few : length (file_made c.args.seed c.args.width c.args.height) ≤ 2 ^ 28 =
-    body_few c.args.seed c.args.width c.args.height (subst (λ (xs : List ℕ). length xs ≤ 268435330) body long) in
+    let sizes : AreSizes c.args.width c.args.height = record { wide = c.requires.wide; most_wide = c.requires.most_wide; high = c.requires.high; most_high = c.requires.most_high } in
+    let few : length (file_made c.args.seed c.args.width c.args.height) ≤ 2 ^ 28 = file_short c.args.seed c.args.width c.args.height sizes in
     IfOk-weaker c.file.result (IsMade c.args.seed c.args.width c.args.height) (λ (v : Vec ℕ). length v.items ≤ 2 ^ 28) (λ v is. subst (λ (xs : List ℕ). length xs ≤ 2 ^ 28) (sym is) few) (returns-clause-made c)
 
 pub returns-clause-well_formed : goal.returns-clause-well_formed
 returns-clause-well_formed c =
-    let body : c.in_ok-body.body.items ≡ body_made c.args.seed c.args.width c.args.height =
-    c.in_ok-body.ensures ∙ ap (λ (m : Making). body_made m.seed m.width m.height) c.in_ok-new.ensures in
-    let long : length c.in_ok-body.body.items ≤ 268435330 = omega (arith, c.if-len-gt-MOST.false, c.len.ensures, c.in_ok-body.body.ok.0) in
-    let few : length (file_made c.args.seed c.args.width c.args.height) ≤ 2 ^ 28 =
-    body_few c.args.seed c.args.width c.args.height (subst (λ (xs : List ℕ). length xs ≤ 268435330) body long) in
     let sizes : AreSizes c.args.width c.args.height = record { wide = c.requires.wide; most_wide = c.requires.most_wide; high = c.requires.high; most_high = c.requires.most_high } in
+    let few : length (file_made c.args.seed c.args.width c.args.height) ≤ 2 ^ 28 = file_short c.args.seed c.args.width c.args.height sizes in
     IfOk-weaker c.file.result (IsMade c.args.seed c.args.width c.args.height) (λ (v : Vec ℕ). IsWellFormed v.items) (λ v is. subst (λ (xs : List ℕ). IsWellFormed xs) (sym is) (made_formed c.args.seed c.args.width c.args.height sizes few)) (returns-clause-made c)
 
 pub returns-clause-accepted : goal.returns-clause-accepted
 returns-clause-accepted c =
-    let body : c.in_ok-body.body.items ≡ body_made c.args.seed c.args.width c.args.height =
-    c.in_ok-body.ensures ∙ ap (λ (m : Making). body_made m.seed m.width m.height) c.in_ok-new.ensures in
-    let long : length c.in_ok-body.body.items ≤ 268435330 = omega (arith, c.if-len-gt-MOST.false, c.len.ensures, c.in_ok-body.body.ok.0) in
-    let few : length (file_made c.args.seed c.args.width c.args.height) ≤ 2 ^ 28 =
-    body_few c.args.seed c.args.width c.args.height (subst (λ (xs : List ℕ). length xs ≤ 268435330) body long) in
     let sizes : AreSizes c.args.width c.args.height = record { wide = c.requires.wide; most_wide = c.requires.most_wide; high = c.requires.high; most_high = c.requires.most_high } in
+    let few : length (file_made c.args.seed c.args.width c.args.height) ≤ 2 ^ 28 = file_short c.args.seed c.args.width c.args.height sizes in
     let size : ℕ = length (body_made c.args.seed c.args.width c.args.height) in
     IfOk-weaker c.file.result (IsMade c.args.seed c.args.width c.args.height) (λ (v : Vec ℕ). IsAccepted v.items (stream_made c.args.width c.args.height size)) (λ v is. subst (λ (xs : List ℕ). IsAccepted xs (stream_made c.args.width c.args.height size)) (sym is) (made_accepted c.args.seed c.args.width c.args.height sizes few)) (returns-clause-made c)

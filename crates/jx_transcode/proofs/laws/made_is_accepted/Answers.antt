@@ -1,4 +1,4 @@
-use Rattle.jx_transcode.proofs.AcceptedLemmas.{no_rule, seven_alone}
+use Rattle.jx_transcode.proofs.AcceptedLemmas.{AllAccepted, no_rule, seven_alone}
 use Rattle.jx_transcode.proofs.OneVerdictLemmas.{Laws}
 use Rattle.jx_transcode.proofs.laws.made_is_accepted.Goals as goal
 
@@ -15,8 +15,11 @@ laws c = record {
   parts = c.one_output.ensures.parts;
 }
 
+law : goal.After-one_output → AllAccepted
+law c = record { accepted = c.made_is_well_formed.ensures.accepted; short = c.made_is_short.ensures }
+
 pub returns-clause-rules : goal.returns-clause-rules
-returns-clause-rules c = no_rule (laws c) c.made_is_well_formed.ensures.accepted
+returns-clause-rules c = no_rule (laws c) (law c)
 
 pub returns-clause-limits : goal.returns-clause-limits
-returns-clause-limits c = seven_alone (laws c) c.made_is_well_formed.ensures.accepted
+returns-clause-limits c = seven_alone (laws c) (law c)

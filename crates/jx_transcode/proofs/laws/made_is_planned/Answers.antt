@@ -1,3 +1,4 @@
+use Rattle.jx_transcode.proofs.AcceptedLemmas.{AllAccepted}
 use Rattle.jx_transcode.proofs.MadeVerdictLemmas.{no_block, no_choice, no_limit}
 use Rattle.jx_transcode.proofs.OneVerdictLemmas.{Laws}
 use Rattle.jx_transcode.proofs.PlannedMade.{MadeLaws}
@@ -27,11 +28,14 @@ laws c = record {
   parts = c.one_output.ensures.parts;
 }
 
+law : goal.After-one_output → AllAccepted
+law c = record { accepted = c.made_is_well_formed.ensures.accepted; short = c.made_is_short.ensures }
+
 pub returns-clause-limits : goal.returns-clause-limits
-returns-clause-limits c rule m number found may aimed short = no_limit (laws c) c.made_is_well_formed.ensures.accepted (made c) rule m may number found aimed short
+returns-clause-limits c rule m number found may aimed = no_limit (laws c) (law c) (made c) rule m may number found aimed
 
 pub returns-clause-choices : goal.returns-clause-choices
-returns-clause-choices c rule m number place may aimed = no_choice (laws c) c.made_is_well_formed.ensures.accepted (made c) rule m may number place aimed
+returns-clause-choices c rule m number place may aimed = no_choice (laws c) (law c) (made c) rule m may number place aimed
 
 pub returns-clause-blocks : goal.returns-clause-blocks
-returns-clause-blocks c rule m number may = no_block (laws c) c.made_is_well_formed.ensures.accepted (made c) rule m may number
+returns-clause-blocks c rule m number may = no_block (laws c) (law c) (made c) rule m may number
