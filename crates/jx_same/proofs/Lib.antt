@@ -1,0 +1,5 @@
+mod FindLemmas
+mod FieldLemmas
+mod PlaceLemmas
+mod SampleLemmas
+mod SegmentLemmas
