@@ -1,8 +1,8 @@
 -- The first item of a list that passes a test, where the list is joined of others.
 use Rattle.std.proofs.Common.{◌≡◌, ◌∙◌, ℕ, zero, suc, ◌+◌, ◌<◌, ◌≤◌, List, [], ◌∷◌, ◌++◌, inl, inr, map, length, take, get_or, ap, sym, refl, add-one, arith, Bool, true, false, cond, Option, None, Some}
-use Rattle.std.specs.List.{find, flat_map}
+use Rattle.std.specs.List.{find, flat_map, slice_get}
 use Rattle.std.specs.Option.{option_map, option_or}
-use Rattle.std.proofs.lemmas.Bool.{cases_lt}
+use Rattle.std.proofs.lemmas.Bool.{cases_Bool, cases_lt}
 use Rattle.std.proofs.lemmas.List.Folds.{find-append}
 use Rattle.jx_base.specs.Joined.{joined}
 use Rattle.jx_base.proofs.Joined.{joined_next, joined_none}
@@ -110,3 +110,41 @@ one_found p x is = ap (λ b. cond b (Some x) None) is
 
 pub one_none : {X : Type 0} (p : X → Bool) (x : X) → p x ≡ false → find p (x ∷ []) ≡ None
 one_none p x is = ap (λ b. cond b (Some x) None) is
+
+-- ---- an answer that is made of another
+pub some_made : {X Y : Type 0} (f : X → Y) (m r : Option X) (n : Option Y) (x : X) (y : Y) → n ≡ option_map f m → r ≡ m → r ≡ Some x → y ≡ f x → n ≡ Some y
+some_made f m r n x y made is here own = made ∙ ap (option_map f) (sym is ∙ here) ∙ ap Some (sym own)
+
+pub none_made : {X Y : Type 0} (f : X → Y) (m r : Option X) (n : Option Y) → n ≡ option_map f m → r ≡ m → r ≡ None → n ≡ None
+none_made f m r n made is here = made ∙ ap (option_map f) (sym is ∙ here)
+
+pub nothing : {X : Type 0} (r : Option X) → ((x : X) → r ≡ Some x → ⊥) → r ≡ None
+nothing None h = refl
+nothing (Some x) h = absurd (h x refl)
+
+-- ---- the one item that passes
+pub find_only : {X : Type 0} (p : X → Bool) (xs : List X) (k : ℕ) (x : X) → slice_get xs k ≡ Some x → p x ≡ true
+    → ((j : ℕ) (y : X) → slice_get xs j ≡ Some y → p y ≡ true → j ≡ k) → find p xs ≡ Some x
+find_only p [] k x at test only = absurd (cc)
+find_only {X} p (y ∷ xs) zero x at test only =
+    let first : ◌≡◌ {A = Option X} (Some y) (Some x) = at in
+    let is : y ≡ x = cc in
+    let here : p y ≡ true = ap p is ∙ test in
+    ap (λ b. cond b (Some y) (find p xs)) here ∙ first
+find_only {X} p (y ∷ xs) (suc k) x at test only = elim (cases_Bool (p y)) [
+  | inl t ↦ let e : 0 ≡ suc k = only 0 y refl t in absurd (omega arith)
+  | inr f ↦
+      ap (λ b. cond b (Some y) (find p xs)) f
+      ∙ find_only p xs k x at test (λ j z at_j test_j. (let e : suc j ≡ suc k = only (suc j) z at_j test_j in omega arith))
+]
+
+-- an item that passes is there, where one is found
+pub find_there : {X : Type 0} (p : X → Bool) (xs : List X) (x : X) → find p xs ≡ Some x → (k : ℕ) × (slice_get xs k ≡ Some x) × (p x ≡ true)
+find_there p [] x e = absurd (cc)
+find_there {X} p (y ∷ xs) x e = elim (cases_Bool (p y)) [
+  | inl t ↦
+      let first : ◌≡◌ {A = Option X} (Some y) (Some x) = rw t at e in
+      let is : y ≡ x = cc in
+      (0, first, ap p (sym is) ∙ t)
+  | inr f ↦ let more = find_there p xs x (rw f at e) in (suc more.0, more.1, more.2)
+]

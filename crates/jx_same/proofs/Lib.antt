@@ -1,5 +1,6 @@
-mod FindLemmas
+mod CellLemmas
 mod FieldLemmas
+mod FindLemmas
 mod PlaceLemmas
 mod SampleLemmas
 mod SegmentLemmas

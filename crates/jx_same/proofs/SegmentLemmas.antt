@@ -1,14 +1,17 @@
 -- The segments of a code-block by the pieces that they came in.
-use Rattle.std.proofs.Common.{◌≡◌, ◌∙◌, ℕ, zero, suc, ◌+◌, ◌-◌, ◌==◌, ◌<◌, ◌≤◌, List, [], ◌∷◌, ◌++◌, inl, inr, map, length, take, drop, get_or, ap, sym, refl, add-one, arith, append_assoc, append-nil, Bool, true, false, cond, if◌then◌else◌}
-use Rattle.std.specs.List.{filter, flat_map, range_with_len}
+use Rattle.std.proofs.Common.{◌≡◌, ◌∙◌, ℕ, zero, suc, ◌+◌, ◌-◌, ◌==◌, ◌^◌, ◌<◌, ◌≤◌, List, [], ◌∷◌, ◌++◌, inl, inr, map, length, take, drop, get_or, ap, sym, refl, add-one, arith, append_assoc, append-nil, length-append, Bool, true, false, cond, if◌then◌else◌}
+use Rattle.std.specs.List.{All, filter, flat_map, range_with_len}
 use Rattle.std.proofs.lemmas.List.{drop_more, map-append, take_more}
+use Rattle.std.proofs.lemmas.List.Elements.{All-cons, All-nil}
+use Rattle.std.proofs.lemmas.List.Sums.{sum_by-cons}
 use Rattle.std.proofs.Math.Seq.{take-length}
 use Rattle.std.proofs.lemmas.Bool.{cases_Bool}
 use Rattle.jx_base.specs.declared.pieces.Block.{Block}
 use Rattle.jx_base.specs.declared.pieces.Piece.{Piece}
 use Rattle.jx_base.specs.Passes.{end_pass}
-use Rattle.jx_base.specs.Pieces.{PieceValue, value_of}
+use Rattle.jx_base.specs.Pieces.{PieceValue, bytes_in, value_of}
 use Rattle.jx_base.proofs.Lists.{range_push}
+use Rattle.jx_tier1_specs.specs.Short.{AreShort}
 use Rattle.jx_codeblock.specs.Recoding.{own_segments}
 use Rattle.jx_codeblock.specs.Segments.{ends_below, segment_at, segment_count, segments_of}
 
@@ -75,6 +78,29 @@ pub segments_end : (b : Block) (pieces : List PieceValue) (n : ℕ) → pieces �
     → map (segment_at b.style.bits pieces) (range_with_len 0 n) ≡ own_segments b
 unfolding segments_of
 segments_end b pieces n own all = rw (own, all) refl
+
+-- none is longer than its block
+segment_fits : (style number : ℕ) (ps : List PieceValue) → length (segment_at style ps number) ≤ bytes_in ps
+segment_fits style number [] = omega arith
+segment_fits style number (p ∷ ps) =
+    let sum : bytes_in (p ∷ ps) ≡ length p.bytes + bytes_in ps = sum_by-cons (λ (q : PieceValue). length q.bytes) p ps in
+    let own : List ℕ = if ends_below style p.first == number then p.bytes else [] in
+    let here : length (segment_at style (p ∷ ps) number) ≡ length (own ++ segment_at style ps number) = ap (λ (s : List ℕ). length s) (segment_more style number p ps) in
+    omega (arith, here, length-append own (segment_at style ps number), own_fits (ends_below style p.first == number) p.bytes, segment_fits style number ps, sum)
+  where
+    own_fits : (b : Bool) (bytes : List ℕ) → length (cond b bytes []) ≤ length bytes
+    own_fits true bytes = omega arith
+    own_fits false bytes = omega arith
+
+all_mapped : {X Y : Type 0} (P : Y → Type 0) (f : X → Y) (xs : List X) → ((x : X) → P (f x)) → All P (map f xs)
+all_mapped P f [] each = All-nil P
+all_mapped P f (x ∷ xs) each = All-cons P (f x) (map f xs) (each x) (all_mapped P f xs each)
+
+pub own_short : (b : Block) → bytes_in b.pieces ≤ 2 ^ 28 → AreShort (own_segments b)
+unfolding segments_of
+own_short b few =
+    all_mapped (λ (s : List ℕ). length s < 2 ^ 32) (segment_at b.style.bits b.pieces) (range_with_len 0 (segment_count b.style.bits b.passes))
+    (λ i. (let fits : length (segment_at b.style.bits b.pieces i) ≤ bytes_in b.pieces = segment_fits b.style.bits i b.pieces in omega arith))
 
 -- ---- lists that are compared item by item
 pub takes_go : {X Y : Type 0} (f : X → Y) (xs ys : List X) (k : ℕ) (d : X) → k < length xs → k < length ys → map f (take k xs) ≡ map f (take k ys)

@@ -1,6 +1,8 @@
 -- One of the two codestreams that are compared, at one of its tiles.
-use Rattle.std.specs.Prelude.{ℕ, ◌<◌, ◌≡◌, ◌==◌, Bool, false, not, List, length, Some}
+use Rattle.std.specs.Prelude.{ℕ, ◌<◌, ◌≡◌, ◌==◌, Bool, false, ◌&&◌, not, List, length, Some}
 use Rattle.jx_base.specs.declared.names.Band.{Band}
+use Rattle.jx_base.specs.declared.names.Rect.{Rect}
+use Rattle.jx_base.specs.declared.names.Span.{Span}
 use Rattle.jx_base.specs.declared.pieces.Block.{Block}
 use Rattle.jx_base.specs.Places.{InRect}
 use Rattle.jx_base.specs.Sound.{IsSound}
@@ -68,14 +70,22 @@ pub record Covers (s : SideValue) (n : BandName) (b : Block) : Type 0 where
 
 -- ---- blocks that need no decoding
 -- two blocks have the same places, planes and passes in one style
-pub record AreHeadedAlike (a b : Block) : Type 0 where
-  pub rect : a.rect ≡ b.rect
-  pub planes : a.planes ≡ b.planes
-  pub zero : a.zero ≡ b.zero
-  pub passes : a.passes ≡ b.passes
-  pub style : a.style ≡ b.style
+abbrev pub same_span : Span → Span → Bool
+same_span a b = a.low == b.low && a.high == b.high
 
--- and so the same coefficients
+abbrev pub same_rect : Rect → Rect → Bool
+same_rect a b = same_span a.x b.x && same_span a.y b.y
+
+abbrev pub same_planes : Block → Block → Bool
+same_planes a b = a.planes == b.planes && a.zero == b.zero
+
+abbrev pub same_passes : Block → Block → Bool
+same_passes a b = a.style.bits == b.style.bits && a.passes == b.passes
+
+abbrev pub same_heads : Block → Block → Bool
+same_heads a b = same_rect a.rect b.rect && (same_planes a b && same_passes a b)
+
+-- two blocks have the same coefficients
 pub record AreAlike (a b : Block) : Type 0 where
   pub rect : a.rect ≡ b.rect
   pub zero : a.zero ≡ b.zero

@@ -9,10 +9,10 @@ ghost use Rattle.jx_codeblock.specs.Recoding.{own_segments};
 ghost use Rattle.jx_codeblock.specs.Written.{own_cells};
 ghost use Rattle.jx_plan.specs.Meaning.{Place, planes_decoded, sample_in};
 ghost use Rattle.jx_same.specs.Items.{same_coef, same_sign};
-ghost use Rattle.jx_same.specs.Sides.{AreAlike, AreHeadedAlike};
+ghost use Rattle.jx_same.specs.Sides.{AreAlike, same_heads, same_span};
 
 use crate::segments::{lent, same_lists, segments_of};
-use jx_base::{Block, NoMemory, Rect};
+use jx_base::{Block, NoMemory, Rect, Span};
 use jx_tier1::{Coded, Coef, FlagGrid, decode_flags};
 use std::alloc::Global;
 use std::marker::Model;
@@ -38,18 +38,20 @@ impl<'a> Model for Decoded<'a> {
 }
 
 /// The coefficients that the passes of a block give, from its segments.
+#[tactic(auto, using(crate::proofs::CellLemmas::from_segments))]
 fn decode(alloc: Global, block: &Block<'_>, lists: &[Vec<u8>]) -> Result<FlagGrid, NoMemory>
     requires sound { IsSound block.now }
     requires some { 1 ≤ block.now.passes }
     requires own { map (λ l. l.items) lists.now ≡ own_segments block.now }
     ensures { IfOk result (λ grid. grid ≡ own_cells block.now) }
 {
+    let segments = lent(alloc, lists)?;
     let coded = Coded {
         band: block.name.band,
         style: block.style,
         planes: block.planes - block.zero,
         passes: block.passes,
-        segments: lent(alloc, lists)?,
+        segments,
     };
     let wide = block.rect.x.len() as u16;
     let high = block.rect.y.len() as u16;
@@ -58,6 +60,7 @@ fn decode(alloc: Global, block: &Block<'_>, lists: &[Vec<u8>]) -> Result<FlagGri
 }
 
 /// The coefficients of a block; all are 0 where it has no pass.
+#[tactic(auto, using(crate::proofs::CellLemmas::none_decoded))]
 fn cells_of(alloc: Global, block: &Block<'_>) -> Result<FlagGrid, NoMemory>
     requires { IsSound block.now }
     ensures { IfOk result (λ grid. grid ≡ own_cells block.now) }
@@ -138,24 +141,28 @@ impl<'a> Decoded<'a> {
     {
         let one = self.at(x, y);
         let two = other.at(x, y);
-        same_sign(one.negative, two.negative)
-            && one.bits == two.bits
-            && planes_of(self.block, one) == planes_of(other.block, two)
+        let planes = planes_of(self.block, one) == planes_of(other.block, two);
+        let bits = one.bits == two.bits && planes;
+        same_sign(one.negative, two.negative) && bits
     }
 }
 
-/// Whether two blocks of one band agree in all but how their segments are cut into pieces, and in their name.
-fn same_heads(a: &Block<'_>, b: &Block<'_>) -> bool
-    ensures { IsTrue result → AreHeadedAlike a.now b.now }
+/// Whether two spans are one.
+fn same_span(a: Span, b: Span) -> bool
+    ensures { result ≡ same_span a b }
 {
-    a.style.bits == b.style.bits
-        && a.passes == b.passes
-        && a.zero == b.zero
-        && a.planes == b.planes
-        && a.rect.x.low == b.rect.x.low
-        && a.rect.x.high == b.rect.x.high
-        && a.rect.y.low == b.rect.y.low
-        && a.rect.y.high == b.rect.y.high
+    a.low == b.low && a.high == b.high
+}
+
+/// Whether two blocks agree in all but their names and how their segments are cut into pieces.
+fn same_heads(a: &Block<'_>, b: &Block<'_>) -> bool
+    ensures { result ≡ same_heads a.now b.now }
+{
+    let rect = same_span(a.rect.x, b.rect.x) && same_span(a.rect.y, b.rect.y);
+    let planes = a.planes == b.planes && a.zero == b.zero;
+    let passes = a.style.bits == b.style.bits && a.passes == b.passes;
+    let coded = planes && passes;
+    rect && coded
 }
 
 /// Whether two blocks of one band have the same passes in the same segments of one style, so that their coefficients need no
@@ -164,6 +171,7 @@ fn same_heads(a: &Block<'_>, b: &Block<'_>) -> bool
 /// # Errors
 ///
 /// `NoMemory` where memory is refused.
+#[tactic(auto, using(crate::proofs::CellLemmas::alike_from))]
 pub(crate) fn are_alike(alloc: Global, a: &Block<'_>, b: &Block<'_>) -> Result<bool, NoMemory>
     requires { a.now.name.band ≡ b.now.name.band }
     ensures { IfOk result (λ alike. IsTrue alike → AreAlike a.now b.now) }

@@ -1,6 +1,7 @@
 //! What the headers of two codestreams say: the picture, its components, how a tile-component is transformed and quantized.
 
 ghost use Rattle.std.specs.Prelude.{◌≡◌, ◌<◌, ◌≤◌, find, length};
+ghost use Rattle.jx_codestream.specs.Shapes.{size_in};
 ghost use Rattle.jx_plan.specs.Meaning.{component_of};
 ghost use Rattle.jx_same.specs.Items.{coding_fields, differs, picture_fields, picture_items, same_canvas, size_fields, size_items, spot_of_band, spot_of_component, step_fields};
 ghost use Rattle.jx_same.specs.Sides.{IsInput, meaning_in, unlike_coding, unlike_picture, unlike_size, unlike_step};
@@ -118,16 +119,22 @@ pub(crate) fn unlike_step(a: (u8, u16), b: (u8, u16)) -> Option<Field>
     None
 }
 
+/// The size of a component.
+fn size_at(siz: &Siz, comp: u16) -> CompSize
+    requires { comp < length siz.now.comps }
+    ensures { result ≡ size_in siz.now comp }
+{
+    siz.comps.as_slice()[usize::from(comp)]
+}
+
 /// What is first found to differ of a component in SIZ.
 fn compare_size(a: &Input<'_>, b: &Input<'_>, comp: u16) -> Option<Spot>
     requires a { comp < length a.now.stream.now.siz.comps }
     requires b { comp < length b.now.stream.now.siz.comps }
     ensures { result ≡ find (differs (meaning_in a.now) (meaning_in b.now)) (size_items comp) }
 {
-    let at = usize::from(comp);
-    let one = a.stream.siz.comps.as_slice()[at];
-    let two = b.stream.siz.comps.as_slice()[at];
-    match unlike_size(one, two) {
+    let one = size_at(&a.stream.siz, comp);
+    match unlike_size(one, size_at(&b.stream.siz, comp)) {
         Some(field) => Some(spot_of_component(0, comp, field)),
         None => None,
     }

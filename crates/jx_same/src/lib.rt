@@ -4,13 +4,13 @@
 mod answer;
 mod bands;
 mod blocks;
-mod compare;
 mod decoded;
 mod headers;
 mod input;
 mod segments;
 mod side;
 mod tiles;
+mod whole;
 
 pub use answer::{Answer, Field, Spot};
-pub use compare::compare;
+pub use whole::compare;
