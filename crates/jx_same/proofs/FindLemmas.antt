@@ -14,7 +14,7 @@ behind p xs ys r none more = find-append p xs ys ∙ ap (λ o. option_or o (find
 pub before : {X : Type 0} (p : X → Bool) (xs ys : List X) (x : X) → find p xs ≡ Some x → find p (xs ++ ys) ≡ Some x
 before p xs ys x here = find-append p xs ys ∙ ap (λ o. option_or o (find p ys)) here
 
-none_first : {X : Type 0} (a b : Option X) → option_or a b ≡ None → a ≡ None
+pub none_first : {X : Type 0} (a b : Option X) → option_or a b ≡ None → a ≡ None
 none_first None b e = refl
 none_first (Some x) b e = e
 

@@ -1,33 +1,39 @@
 -- The coefficient of a place, by the code-block that has the place.
-use Rattle.std.proofs.Common.{◌≡◌, ◌∙◌, ℕ, ◌+◌, ◌<◌, ◌≤◌, ◌==◌, List, length, ap, sym, subst, refl, arith, Bool, true, false, ◌&&◌, Option, None, Some, nat_le, nat_lt}
+use Rattle.std.proofs.Common.{◌≡◌, ◌∙◌, ℕ, ◌+◌, ◌^◌, ◌<◌, ◌≤◌, ◌==◌, List, length, get_or, ap, sym, subst, refl, arith, Bool, true, false, ◌&&◌, Option, None, Some, nat_le, nat_lt}
 use Rattle.std.specs.List.{find, slice_get}
 use Rattle.std.specs.Option.{option_map}
 use Rattle.std.proofs.lemmas.Bool.{and_from, and_parts, eq-eqb, eqb-true, le-leb, leb-true}
 use Rattle.std.proofs.lemmas.Bool.Decides.{nat_tests}
-use Rattle.std.proofs.lemmas.Option.{slice_get_within}
+use Rattle.std.proofs.lemmas.Option.{get_or_from_slice_get, slice_get_within}
 use Rattle.jx_base.specs.declared.names.Band.{Band}
 use Rattle.jx_base.specs.declared.names.Band.TheVariants.{LL, HL, LH, HH}
 use Rattle.jx_base.specs.declared.names.BlockName.{BlockName}
 use Rattle.jx_base.specs.declared.names.Rect.{Rect}
 use Rattle.jx_base.specs.declared.names.Span.{Span}
 use Rattle.jx_base.specs.declared.pieces.Block.{Block}
-use Rattle.jx_base.specs.Places.{InRect, InSpan}
+use Rattle.jx_base.specs.Places.{InRect, InSpan, size_of}
 use Rattle.jx_base.specs.Sound.{IsSound}
+use Rattle.jx_base.specs.Joined.{sum_below}
 use Rattle.jx_base.proofs.Lists.{all_at}
-use Rattle.jx_geom.specs.Geometry.{Geometry, HasBlock, rect_of_tile, shape_of}
+use Rattle.jx_base.proofs.Sums.{sum_below_grows, sum_below_next}
+use Rattle.jx_geom.specs.Geometry.{Geometry, HasBlock, HasResolution, blocks_in, rect_of_tile, shape_of}
 use Rattle.jx_geom.specs.Numbering.{IsBlock, block_number, blocks_below, number_in_tile}
-use Rattle.jx_geom.specs.Rects.{block_rect}
+use Rattle.jx_geom.specs.Counts.{tile_blocks}
+use Rattle.jx_geom.specs.Rects.{block_rect, tile_rect}
 use Rattle.jx_geom.proofs.NumberLemmas.{block_number_below, block_number_taken}
 use Rattle.jx_progression.specs.Loops.{is_in}
 use Rattle.jx_codestream.specs.declared.Stream.{Stream}
 use Rattle.jx_codestream.specs.First.{canvas_of, tile_number}
 use Rattle.jx_codestream.specs.Shapes.{geometry, shapes_of}
-use Rattle.jx_tile.proofs.TotalLemmas.{blocks_are}
+use Rattle.jx_tile.specs.Faults.{passed}
+use Rattle.jx_tile.specs.Totals.{block_total, packet_total, totals_fault}
+use Rattle.jx_tile.proofs.TotalLemmas.{blocks_are, not_passed}
 use Rattle.jx_tier2_reader.specs.BlockOf.{AreBlocksOf, IsBlockOf, IsFoundOf}
 use Rattle.jx_plan.specs.Meaning.{Place, is_band, lies_in, sample_at, sample_in}
 use Rattle.jx_same.specs.declared.side.BandName.{BandName}
-use Rattle.jx_same.specs.Sides.{Covers, IsSide, SideValue, place_in}
-use Rattle.jx_same.proofs.FindLemmas.{find_only}
+use Rattle.jx_same.specs.Items.{rect_in}
+use Rattle.jx_same.specs.Sides.{Covers, HasBandOf, IsSide, SideValue, geometry_at, place_in}
+use Rattle.jx_same.proofs.FindLemmas.{find_only, none_first}
 use Rattle.jx_same.proofs.PlaceLemmas.{one_block}
 
 -- ---- a place that lies in a block
@@ -94,6 +100,10 @@ lies_from p b h =
     (and_from (is_in b.rect.x p.x) (is_in b.rect.y p.y) (is_in_from b.rect.x p.x h.place.across) (is_in_from b.rect.y p.y h.place.down)))
 
 -- ---- a block at its number
+few_blocks : (s : Stream) → totals_fault s ≡ None → block_total s ≤ 2 ^ 20
+unfolding totals_fault
+few_blocks s none = not_passed 5 (block_total s) (2 ^ 20) (none_first (passed 5 (block_total s) (nat_lt (2 ^ 20) (block_total s))) (passed 6 (packet_total s) (nat_lt (2 ^ 22) (packet_total s))) none)
+
 abbrev pub number_of : Stream → BlockName → ℕ
 number_of s n = block_number (canvas_of s.siz) (shapes_of s) n
 
@@ -107,6 +117,7 @@ pub record BlockAt (s : Stream) (blocks : List Block) (n : BlockName) : Type 0 w
   pub there : IsAt s blocks n block
 
 found_at : (s : Stream) (blocks : List Block) (n : BlockName) (o : Option Block) → IsBlock (canvas_of s.siz) (shapes_of s) n → slice_get blocks (number_of s n) ≡ o → IsFoundOf s n o → BlockAt s blocks n
+found_at s blocks n None is at own = elim own [ ]
 found_at s blocks n (Some b) is at own = record { block = b; there = record { is = is; at = at; own = own } }
 
 pub block_there : (s : Stream) (blocks : List Block) (n : BlockName) → AreBlocksOf s blocks → IsBlock (canvas_of s.siz) (shapes_of s) n → BlockAt s blocks n
@@ -197,3 +208,78 @@ number_is s n t first k g e1 e2 e3 e4 = rw (e1, e2, e3, sym e4) refl
 pub is_block : (s : Stream) (n : BlockName) (t : ℕ) (g : Geometry) → HasBlock g n → g ≡ geometry s t → n.tile ≡ t → t < tile_number s.siz → IsBlock (canvas_of s.siz) (shapes_of s) n
 is_block s n t g has is tile inside =
     (subst (λ (i : ℕ). i < tile_number s.siz) (sym tile) inside, subst (λ (h : Geometry). HasBlock h n) (is ∙ ap (geometry s) (sym tile)) has)
+
+pub record Lies (v : SideValue) (n : BlockName) (number : ℕ) : Type 0 where
+  pub block : Block
+  pub there : IsAt v.stream v.blocks n block
+  pub at : slice_get v.blocks number ≡ Some block
+  pub inside : number < length v.blocks
+  pub few : length v.blocks ≤ 2 ^ 20
+
+pub lies : (v : SideValue) (n : BlockName) (first k : ℕ) (g : Geometry) → IsSide v → first ≡ blocks_below (canvas_of v.stream.siz) (shapes_of v.stream) v.tile
+    → k ≡ number_in_tile g n → g ≡ geometry v.stream v.tile → HasBlock g n → Lies v n (first + k)
+lies v n first k g side before own is has =
+    let tile : n.tile ≡ v.tile = has.tile ∙ ap (λ (h : Geometry). h.tile) is in
+    let block = block_there v.stream v.blocks n side.may.blocks_are (is_block v.stream n v.tile g has is tile side.tile) in
+    let number : first + k ≡ number_of v.stream n = number_is v.stream n v.tile first k g before own is tile in
+    let at : slice_get v.blocks (first + k) ≡ Some block.block = ap (λ (i : ℕ). slice_get v.blocks i) number ∙ block.there.at in
+    record {
+      block = block.block;
+      there = block.there;
+      at = at;
+      inside = slice_get_within v.blocks (first + k) block.block at;
+      few = omega (arith, side.may.blocks_are.all, few_blocks v.stream side.may.totals);
+    }
+
+-- how many blocks there are up to the end of a tile
+pub record Behind (s : Stream) (t number : ℕ) : Type 0 where
+  pub value : number ≡ blocks_below (canvas_of s.siz) (shapes_of s) (t + 1)
+  pub few : number ≤ 2 ^ 20
+
+pub behind_is : (s : Stream) (t first count : ℕ) → totals_fault s ≡ None → t < tile_number s.siz → first ≡ blocks_below (canvas_of s.siz) (shapes_of s) t
+    → count ≡ tile_blocks (tile_rect (canvas_of s.siz) t) (shapes_of s t) → Behind s t (first + count)
+behind_is s t first count totals inside before own =
+    let f : ℕ → ℕ = λ i. tile_blocks (tile_rect (canvas_of s.siz) i) (shapes_of s i) in
+    let next : sum_below f (t + 1) ≡ sum_below f t + f t = sum_below_next f t in
+    let most : sum_below f (t + 1) ≤ sum_below f (tile_number s.siz) = sum_below_grows f (t + 1) (tile_number s.siz) (omega arith) in
+    record { value = omega arith; few = omega (arith, blocks_are s, few_blocks s totals) }
+
+-- ---- a block by its index in a band
+abbrev pub block_name : ℕ → BandName → ℕ → BlockName
+block_name t name i = record { tile = t; comp = name.comp; res = name.res; band = name.band; index = i }
+
+-- the number that is counted, of a geometry that is the tile's
+pub record IsCounted (v : SideValue) (name : BandName) (t i first k : ℕ) (g : Geometry) : Type 0 where
+  pub side : IsSide v
+  pub before : first ≡ blocks_below (canvas_of v.stream.siz) (shapes_of v.stream) v.tile
+  pub own : k ≡ number_in_tile g (block_name t name i)
+  pub geometry : g ≡ geometry v.stream v.tile
+  pub tile : t ≡ g.tile
+  pub band : HasBandOf v name
+  pub index : i < size_of (blocks_in (geometry_at v) name.comp name.res name.band)
+
+pub counted_lies : (v : SideValue) (name : BandName) (t i first k : ℕ) (g : Geometry) → IsCounted v name t i first k g → Lies v (block_name t name i) (first + k)
+counted_lies v name t i first k g c = lies v (block_name t name i) first k g c.side c.before c.own c.geometry (record {
+  tile = c.tile;
+  resolution = subst (λ (h : Geometry). HasResolution h name.comp name.res) (sym c.geometry) c.band.resolution;
+  band = c.band.band;
+  index = subst (λ (h : Geometry). i < size_of (blocks_in h name.comp name.res name.band)) (sym c.geometry) c.index;
+})
+
+pub counted_inside : (v : SideValue) (name : BandName) (t i first k : ℕ) (g : Geometry) → IsCounted v name t i first k g → (first + k < length v.blocks) × (length v.blocks ≤ 2 ^ 20)
+counted_inside v name t i first k g c = let here = counted_lies v name t i first k g c in (here.inside, here.few)
+
+pub record IsFoundAt (v : SideValue) (name : BandName) (i : ℕ) (b : Block) : Type 0 where
+  pub covers : Covers v name b
+  pub rect : b.rect ≡ rect_in (geometry_at v) name.comp name.res name.band i
+
+pub counted_found : (v : SideValue) (name : BandName) (t i first k : ℕ) (g : Geometry) (b : Block) → IsCounted v name t i first k g → b ≡ get_or v.blocks (first + k) b → IsFoundAt v name i b
+counted_found v name t i first k g b c is =
+    let here = counted_lies v name t i first k g c in
+    let same : b ≡ here.block = is ∙ get_or_from_slice_get v.blocks (first + k) here.block b here.at in
+    let tile : t ≡ v.tile = c.tile ∙ ap (λ (h : Geometry). h.tile) c.geometry in
+    let found : IsFoundAt v name i here.block = record {
+      covers = covers v name (block_name t name i) here.block c.side tile refl refl refl here.there;
+      rect = here.there.own.rect ∙ ap (λ (u : ℕ). block_rect (rect_of_tile (geometry v.stream u)) (shape_of (geometry v.stream u) name.comp) name.res name.band i) tile;
+    } in
+    subst (λ (z : Block). IsFoundAt v name i z) (sym same) found

@@ -23,7 +23,7 @@ fn over<'a>(
 ) -> Result<Decoded<'a>, NoMemory>
     requires band { HasBandOf side.now name }
     requires place { InRect (band_in (geometry_at side.now) name.comp name.res name.band) x y }
-    requires hand { Covers side.now name hand.entry }
+    requires hand { Covers side.now name hand }
     ensures covers { IfOk result (λ block. Covers side.now name block) }
     ensures has { IfOk result (λ block. InRect block.rect x y) }
 {
@@ -62,7 +62,7 @@ fn compare_places<'a>(
     requires band { HasBandOf a.now name }
     requires block { Covers a.now name block.now }
     requires inside { (x y : ℕ) → InRect block.now.rect x y → InRect (band_in (geometry_at a.now) name.comp name.res name.band) x y }
-    requires hand { Covers b.now name hand.entry }
+    requires hand { Covers b.now name hand }
     ensures { IfOk result (λ found. found ≡ find (differs (meaning_at a.now) (meaning_at b.now)) (coef_items a.now.tile name.comp name.res name.band block.now.rect)) }
 {
     let rect = block.rect();

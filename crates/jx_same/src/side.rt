@@ -87,6 +87,24 @@ fn block_exponents(shape: &CompShape, res: u8) -> (u32, u32)
     )
 }
 
+/// How a component is divided.
+fn shape_at<'a>(
+    stream: &Stream,
+    view: &'a TileView<'_>,
+    geom: &TileGeom,
+    comp: u16,
+) -> &'a CompShape
+    requires tile { AreOfTile stream.now view.now geom.now }
+    requires comp { comp < length geom.now.shapes }
+    ensures value { result.now ≡ shape_of geom.now comp }
+    ensures range { ShapeInRange result.now }
+{
+    // They are asked for in the contract alone.
+    let _ = stream;
+    let _ = geom;
+    &view.shapes()[usize::from(comp)]
+}
+
 /// The index of the code-block of a band that has a place.
 fn index_over(
     stream: &Stream,
@@ -103,10 +121,8 @@ fn index_over(
     ensures below { result < size_of (blocks_in geom.now name.comp name.res name.band) }
     ensures has { InRect (rect_in geom.now name.comp name.res name.band result) x y }
 {
-    // It is asked for in the contract alone.
-    let _ = stream;
     let cells = geom.cells(name.comp, name.res, name.band);
-    let (across, down) = block_exponents(&view.shapes()[usize::from(name.comp)], name.res);
+    let (across, down) = block_exponents(shape_at(stream, view, geom, name.comp), name.res);
     cells.number(x >> across, y >> down) as u32
 }
 
@@ -123,10 +139,10 @@ impl<'a> Side<'a> {
         tile: u16,
         first: usize,
     ) -> Result<Side<'a>, NoMemory>
-        requires input { IsInput input.entry }
-        requires main { main.now ≡ record { siz = input.entry.stream.now.siz; main = input.entry.stream.now.main } }
-        requires tile { tile < tile_number input.entry.stream.now.siz }
-        requires first { first ≡ blocks_below (canvas_of input.entry.stream.now.siz) (shapes_of input.entry.stream.now) tile }
+        requires input { IsInput input }
+        requires main { main.now ≡ record { siz = input.stream.now.siz; main = input.stream.now.main } }
+        requires tile { tile < tile_number input.stream.now.siz }
+        requires first { first ≡ blocks_below (canvas_of input.stream.now.siz) (shapes_of input.stream.now) tile }
         ensures { IfOk result (λ side. side ≡ record { stream = input.entry.stream.now; blocks = input.entry.blocks.now; tile = tile }) }
     {
         let frame = TileFrame::new(alloc, input.stream, main, tile)?;

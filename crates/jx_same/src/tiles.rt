@@ -36,11 +36,11 @@ fn compare_all<'a>(
     b: Input<'a>,
     main_b: &'a MainView<'a>,
 ) -> Result<Option<Spot>, NoMemory>
-    requires a { IsInput a.entry }
-    requires b { IsInput b.entry }
-    requires main_a { main_a.now ≡ record { siz = a.entry.stream.now.siz; main = a.entry.stream.now.main } }
-    requires main_b { main_b.now ≡ record { siz = b.entry.stream.now.siz; main = b.entry.stream.now.main } }
-    requires siz { (meaning_in a.entry).siz ≡ (meaning_in b.entry).siz }
+    requires a { IsInput a }
+    requires b { IsInput b }
+    requires main_a { main_a.now ≡ record { siz = a.stream.now.siz; main = a.stream.now.main } }
+    requires main_b { main_b.now ≡ record { siz = b.stream.now.siz; main = b.stream.now.main } }
+    requires siz { (meaning_in a).siz ≡ (meaning_in b).siz }
     ensures { IfOk result (λ found. found ≡ find (differs (meaning_in a.entry) (meaning_in b.entry)) (joined (tile_items a.entry.stream.now) 0 (tile_number a.entry.stream.now.siz))) }
 {
     let mut first_a = 0;
@@ -67,9 +67,9 @@ pub(crate) fn compare_tiles(
     a: Input<'_>,
     b: Input<'_>,
 ) -> Result<Option<Spot>, NoMemory>
-    requires a { IsInput a.entry }
-    requires b { IsInput b.entry }
-    requires siz { (meaning_in a.entry).siz ≡ (meaning_in b.entry).siz }
+    requires a { IsInput a }
+    requires b { IsInput b }
+    requires siz { (meaning_in a).siz ≡ (meaning_in b).siz }
     ensures { IfOk result (λ found. found ≡ find (differs (meaning_in a.entry) (meaning_in b.entry)) (joined (tile_items a.entry.stream.now) 0 (tile_number a.entry.stream.now.siz))) }
 {
     let main_a = a.stream.main_view(alloc)?;

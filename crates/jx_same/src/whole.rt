@@ -18,8 +18,8 @@ use std::alloc::Global;
 
 /// The first value that differs.
 fn first_differing(alloc: Global, a: Input<'_>, b: Input<'_>) -> Result<Option<Spot>, NoMemory>
-    requires a { IsInput a.entry }
-    requires b { IsInput b.entry }
+    requires a { IsInput a }
+    requires b { IsInput b }
     ensures { IfOk result (λ found. found ≡ find (differs (meaning_in a.entry) (meaning_in b.entry)) (items_of a.entry.stream.now)) }
 {
     if let Some(spot) = compare_pictures(&a, &b) {
