@@ -1,3 +1,4 @@
+mod BlockLemmas
 mod CellLemmas
 mod FieldLemmas
 mod FindLemmas

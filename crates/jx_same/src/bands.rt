@@ -89,6 +89,7 @@ fn compare_resolutions(
     requires aligned { AreAligned a.now b.now comp }
     requires comp { comp < length a.now.stream.siz.comps }
     requires levels { levels ≡ (shape_of (geometry_at a.now) comp).levels }
+    requires few { levels ≤ 32 }
     ensures { IfOk result (λ found. found ≡ find (differs (meaning_at a.now) (meaning_at b.now)) (joined (resolution_items (geometry_at a.now) comp) 0 (levels + 1))) }
 {
     for res in 0..levels + 1 {
@@ -114,9 +115,8 @@ pub(crate) fn compare_component(
     requires comp { comp < length a.now.stream.siz.comps }
     ensures { IfOk result (λ found. found ≡ find (differs (meaning_at a.now) (meaning_at b.now)) (component_items (geometry_at a.now) comp)) }
 {
-    let params = a.params(comp);
-    if let Some(field) = unlike_coding(&params, &b.params(comp)) {
+    if let Some(field) = unlike_coding(&a.params(comp), &b.params(comp)) {
         return Ok(Some(spot_of_component(a.tile(), comp, field)));
     }
-    compare_resolutions(alloc, a, b, comp, params.levels)
+    compare_resolutions(alloc, a, b, comp, a.levels(comp))
 }

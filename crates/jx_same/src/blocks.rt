@@ -1,8 +1,9 @@
 //! The coefficients of a code-block of one codestream, compared with those of the same places in the other.
 
-ghost use Rattle.std.specs.Prelude.{◌≡◌, ◌<◌, find, IfOk};
+ghost use Rattle.std.specs.Prelude.{◌≡◌, ◌<◌, ℕ, find, IfOk};
 ghost use Rattle.jx_base.specs.Places.{InRect, size_of};
 ghost use Rattle.jx_geom.specs.Geometry.{band_in, blocks_in};
+ghost use Rattle.jx_same.specs.declared.answer.Field.TheVariants as field;
 ghost use Rattle.jx_same.specs.Items.{block_items, coef_items, differs};
 ghost use Rattle.jx_same.specs.Sides.{AreAligned, Covers, HasBandOf, geometry_at, meaning_at};
 

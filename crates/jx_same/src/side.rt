@@ -178,6 +178,16 @@ impl<'a> Side<'a> {
         self.first + count_tile(geom.tile(), view.shapes()) as usize
     }
 
+    /// The decomposition levels of a component, 0 to 32.
+    pub(crate) fn levels(&self, comp: u16) -> u8
+        requires { comp < length self.now.stream.siz.comps }
+        ensures value { result ≡ (shape_of (geometry_at self.now) comp).levels }
+        ensures bound { result ≤ 32 }
+    {
+        let (_, _, geom) = self.frame.parts();
+        geom.levels(comp)
+    }
+
     /// How a component is transformed and quantized.
     pub(crate) fn params(&self, comp: u16) -> Params
         ensures { result ≡ params_of self.now.stream self.now.tile comp }
