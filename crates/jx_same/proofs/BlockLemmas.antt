@@ -130,7 +130,7 @@ sign_same : (b : Bool) → same_sign b b ≡ true
 sign_same true = refl
 sign_same false = refl
 
-coef_same : (c : Coef) → same_coef c c ≡ true
+pub coef_same : (c : Coef) → same_coef c c ≡ true
 coef_same c =
     and_from (same_sign c.negative c.negative) (c.bits == c.bits && c.planes == c.planes) (sign_same c.negative)
     (and_from (c.bits == c.bits) (c.planes == c.planes) (eq-eqb c.bits c.bits refl) (eq-eqb c.planes c.planes refl))

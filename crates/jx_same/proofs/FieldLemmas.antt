@@ -38,7 +38,7 @@ module _ (s t : Stream) (x y : List Block) where
   step_found i c r b = find_map (differs (meaning_of s x) (meaning_of t y)) (spot_of_band i c r b) step_fields
 
 -- ---- none of the fields of how a component is transformed differs
-alike : (x y : ℕ) → not (x == y) ≡ false → x ≡ y
+pub alike : (x y : ℕ) → not (x == y) ≡ false → x ≡ y
 alike x y h = eqb-true x y (not-false (x == y) h)
 
 component_by : ℕ → ℕ → ℕ → ℕ → ℕ → ℕ → Component

@@ -2,6 +2,8 @@ mod BlockLemmas
 mod CellLemmas
 mod FieldLemmas
 mod FindLemmas
+mod HeaderLemmas
 mod PlaceLemmas
 mod SampleLemmas
 mod SegmentLemmas
+mod TileLemmas
