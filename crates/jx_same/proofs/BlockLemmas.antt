@@ -5,7 +5,6 @@ use Rattle.std.proofs.lemmas.Bool.{and_from, eq-eqb}
 use Rattle.jx_base.specs.declared.names.Band.{Band}
 use Rattle.jx_base.specs.declared.names.Rect.{Rect}
 use Rattle.jx_base.specs.declared.pieces.Block.{Block}
-use Rattle.jx_base.specs.Joined.{joined}
 use Rattle.jx_base.specs.Places.{InRect, column_at, row_at, size_of}
 use Rattle.jx_base.specs.Sound.{IsSound}
 use Rattle.jx_base.proofs.Raster.{raster_in}
@@ -21,14 +20,14 @@ use Rattle.jx_codeblock.specs.Written.{own_cells}
 use Rattle.jx_codestream.specs.declared.Stream.{Stream}
 use Rattle.jx_codestream.specs.First.{canvas_of}
 use Rattle.jx_codestream.specs.Params.{params_of}
-use Rattle.jx_codestream.specs.Shapes.{geometry, no_size, shape_in, shapes_of, size_in}
+use Rattle.jx_codestream.specs.Shapes.{geometry, no_size, shape_in, size_in}
 use Rattle.jx_codestream.proofs.RangeLemmas.{shapes_at, shapes_length}
-use Rattle.jx_plan.specs.Meaning.{Component, Place, component_of, meaning_of, planes_decoded, sample_at, sample_in}
+use Rattle.jx_plan.specs.Meaning.{Component, Place, component_of, meaning_of, sample_at, sample_in}
 use Rattle.jx_same.specs.declared.answer.Field.TheVariants as field
 use Rattle.jx_same.specs.declared.answer.Spot.{Spot}
 use Rattle.jx_same.specs.declared.side.BandName.{BandName}
-use Rattle.jx_same.specs.Items.{block_items, coef_item, coef_items, coef_or, differs, rect_in, same_coef, same_sign, spot_of_coef}
-use Rattle.jx_same.specs.Sides.{AreAligned, AreAlike, AreBeside, Covers, HasBandOf, SideValue, geometry_at, meaning_at, place_in}
+use Rattle.jx_same.specs.Items.{coef_item, coef_items, coef_or, differs, rect_in, same_coef, same_sign, spot_of_coef}
+use Rattle.jx_same.specs.Sides.{AreAligned, AreAlike, AreBeside, Covers, HasBandOf, SideValue, geometry_at, meaning_at}
 use Rattle.jx_same.proofs.FindLemmas.{joined_all, one_none}
 use Rattle.jx_same.proofs.PlaceLemmas.{in_band, same_band}
 

@@ -1,5 +1,5 @@
 -- The first field in which two codestreams differ, where a picture, a component or a band is looked at by itself.
-use Rattle.std.proofs.Common.{◌≡◌, ◌∙◌, ◌==◌, ℕ, List, map, ap, refl, Bool, false, not, None}
+use Rattle.std.proofs.Common.{◌≡◌, ◌∙◌, ◌==◌, ℕ, List, map, ap, refl, false, not, None}
 use Rattle.std.proofs.lemmas.Bool.{eqb-true, not-false}
 use Rattle.jx_base.proofs.Lists.{all_at, find_none}
 use Rattle.std.specs.List.{find}

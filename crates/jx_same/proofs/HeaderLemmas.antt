@@ -1,5 +1,5 @@
 -- Two codestreams of which no value of the picture and its components differs, and one that is compared with itself.
-use Rattle.std.proofs.Common.{◌≡◌, ◌∙◌, ◌==◌, ◌<◌, ℕ, zero, suc, List, [], ◌∷◌, map, length, get_or, ap, refl, sym, subst, arith, Bool, true, false, not, ◌&&◌, Option, None, Some}
+use Rattle.std.proofs.Common.{◌≡◌, ◌∙◌, ◌==◌, ◌<◌, ℕ, zero, suc, List, [], ◌∷◌, map, length, get_or, ap, refl, sym, arith, true, false, ◌&&◌, Option, None, Some}
 use Rattle.std.specs.List.{find, slice_get}
 use Rattle.std.specs.Option.{option_map}
 use Rattle.std.proofs.lemmas.Bool.{and_from, and_parts, eq-eqb, eqb-true, not-false}
@@ -14,7 +14,7 @@ use Rattle.jx_plan.specs.Meaning.{Meaning, meaning_of}
 use Rattle.jx_same.specs.declared.answer.Field.{Field}
 use Rattle.jx_same.specs.declared.answer.Field.TheVariants as field
 use Rattle.jx_same.specs.declared.answer.Spot.{Spot}
-use Rattle.jx_same.specs.Items.{agree, coef_at_spot, component_at, differs, picture_fields, picture_items, same_canvas, same_coef, same_sampling, size_fields, size_items, spot_of_component, step_at}
+use Rattle.jx_same.specs.Items.{agree, coef_at_spot, component_at, differs, picture_fields, picture_items, same_canvas, same_sampling, size_fields, size_items, spot_of_component, step_at}
 use Rattle.jx_same.specs.Sides.{unlike_picture, unlike_size}
 use Rattle.jx_same.proofs.BlockLemmas.{coef_same}
 use Rattle.jx_same.proofs.FieldLemmas.{alike, picture_found, size_found}
@@ -107,9 +107,9 @@ picture_same s t x y none =
     let P : Field → Type 0 = λ f. unlike_picture s.siz t.siz f ≡ false in
     let long : length s.siz.comps ≡ length t.siz.comps = alike (length s.siz.comps) (length t.siz.comps) (all_at P picture_fields 1 field.Components all refl) in
     let each : (i : ℕ) → i < length s.siz.comps → slice_get s.siz.comps i ≡ slice_get t.siz.comps i = λ i lt.
-        (let one = map_none (spot_of_component 0 i) (find (unlike_size (size_in s.siz i) (size_in t.siz i)) size_fields)
-            (sym (size_found s t x y i) ∙ joined_each p size_items i (length s.siz.comps) more lt) in
-        get_some s.siz.comps i no_size lt ∙ ap (λ (z : CompSize). Some z) (size_same (size_in s.siz i) (size_in t.siz i) one) ∙ sym (get_some t.siz.comps i no_size (omega arith))) in
+    (let one = map_none (spot_of_component 0 i) (find (unlike_size (size_in s.siz i) (size_in t.siz i)) size_fields)
+    (sym (size_found s t x y i) ∙ joined_each p size_items i (length s.siz.comps) more lt) in
+    get_some s.siz.comps i no_size lt ∙ ap (λ (z : CompSize). Some z) (size_same (size_in s.siz i) (size_in t.siz i) one) ∙ sym (get_some t.siz.comps i no_size (omega arith))) in
     canvas_same s.siz t.siz (not-false (same_canvas s.siz t.siz) (all_at P picture_fields 0 field.Canvas all refl)) (same_gets s.siz.comps t.siz.comps long each)
 
 pub siz_one : (s t : Stream) (x y : List Block) → ◌≡◌ {A = Siz} (record s.siz { rsiz = 0 }) (record t.siz { rsiz = 0 }) → (meaning_of s x).siz ≡ (meaning_of t y).siz

@@ -1,14 +1,13 @@
 -- The code-block that has a place of a band.
-use Rattle.std.proofs.Common.{◌≡◌, ◌∙◌, ℕ, ◌+◌, ◌-◌, ◌/◌, ◌^◌, ◌<◌, ap, sym, subst, refl}
+use Rattle.std.proofs.Common.{◌≡◌, ◌∙◌, ℕ, ◌+◌, ◌-◌, ◌/◌, ◌^◌, ◌<◌, ap, sym, refl}
 use Rattle.std.proofs.lemmas.Nat.{pow_pos}
 use Rattle.jx_base.specs.declared.names.Band.{Band}
 use Rattle.jx_base.specs.declared.names.Band.TheVariants.{LL, HL, LH, HH}
 use Rattle.jx_base.specs.declared.names.Rect.{Rect}
-use Rattle.jx_base.specs.Places.{InRect, InSpan, column_at, number_at, row_at, size_of}
+use Rattle.jx_base.specs.Places.{InRect, column_at, number_at, row_at, size_of}
 use Rattle.jx_base.proofs.Raster.{number_below, number_column, number_row, raster_one}
 use Rattle.jx_geom.specs.declared.shape.CompShape.{CompShape}
 use Rattle.jx_geom.specs.Rects.{band_level, band_rect, block_across, block_cells, block_down, block_rect, component_rect}
-use Rattle.jx_geom.specs.Spans.{cells, cut}
 use Rattle.jx_geom.proofs.SpanLemmas.{cells_from, cut_from, cut_to}
 
 -- a place of a block lies in its band, and in one block of the band alone

@@ -1,6 +1,6 @@
 -- The coefficient of a place, by the code-block that has the place.
-use Rattle.std.proofs.Common.{◌≡◌, ◌∙◌, ℕ, ◌+◌, ◌^◌, ◌<◌, ◌≤◌, ◌==◌, List, length, get_or, ap, sym, subst, refl, arith, Bool, true, false, ◌&&◌, Option, None, Some, nat_le, nat_lt}
-use Rattle.std.specs.List.{find, slice_get}
+use Rattle.std.proofs.Common.{◌≡◌, ◌∙◌, ℕ, ◌+◌, ◌^◌, ◌<◌, ◌≤◌, ◌==◌, List, length, get_or, ap, sym, subst, refl, arith, true, ◌&&◌, Option, None, Some, nat_le, nat_lt}
+use Rattle.std.specs.List.{slice_get}
 use Rattle.std.specs.Option.{option_map}
 use Rattle.std.proofs.lemmas.Bool.{and_from, and_parts, eq-eqb, eqb-true, le-leb, leb-true}
 use Rattle.std.proofs.lemmas.Bool.Decides.{nat_tests}
@@ -20,7 +20,7 @@ use Rattle.jx_geom.specs.Geometry.{Geometry, HasBlock, HasResolution, blocks_in,
 use Rattle.jx_geom.specs.Numbering.{IsBlock, block_number, blocks_below, number_in_tile}
 use Rattle.jx_geom.specs.Counts.{tile_blocks}
 use Rattle.jx_geom.specs.Rects.{block_rect, tile_rect}
-use Rattle.jx_geom.proofs.NumberLemmas.{block_number_below, block_number_taken}
+use Rattle.jx_geom.proofs.NumberLemmas.{block_number_taken}
 use Rattle.jx_progression.specs.Loops.{is_in}
 use Rattle.jx_codestream.specs.declared.Stream.{Stream}
 use Rattle.jx_codestream.specs.First.{canvas_of, tile_number}
@@ -172,11 +172,11 @@ found_only s blocks n b p are here has j y at test =
     let other = lies_to p y test in
     let P : Rect → Type 0 = λ r. InRect r p.x p.y in
     let one : m ≡ n = same_block s m n p.x p.y
-        (ap (λ (z : BlockName). z.tile) (sym there.own.name) ∙ sym other.tile ∙ has.tile ∙ ap (λ (z : BlockName). z.tile) here.own.name)
-        (ap (λ (z : BlockName). z.comp) (sym there.own.name) ∙ sym other.comp ∙ has.comp ∙ ap (λ (z : BlockName). z.comp) here.own.name)
-        (ap (λ (z : BlockName). z.res) (sym there.own.name) ∙ sym other.res ∙ has.res ∙ ap (λ (z : BlockName). z.res) here.own.name)
-        (ap (λ (z : BlockName). z.band) (sym there.own.name) ∙ sym other.band ∙ has.band ∙ ap (λ (z : BlockName). z.band) here.own.name)
-        (subst P there.own.rect other.place) (subst P here.own.rect has.place) in
+    (ap (λ (z : BlockName). z.tile) (sym there.own.name) ∙ sym other.tile ∙ has.tile ∙ ap (λ (z : BlockName). z.tile) here.own.name)
+    (ap (λ (z : BlockName). z.comp) (sym there.own.name) ∙ sym other.comp ∙ has.comp ∙ ap (λ (z : BlockName). z.comp) here.own.name)
+    (ap (λ (z : BlockName). z.res) (sym there.own.name) ∙ sym other.res ∙ has.res ∙ ap (λ (z : BlockName). z.res) here.own.name)
+    (ap (λ (z : BlockName). z.band) (sym there.own.name) ∙ sym other.band ∙ has.band ∙ ap (λ (z : BlockName). z.band) here.own.name)
+    (subst P there.own.rect other.place) (subst P here.own.rect has.place) in
     sym there.number ∙ ap (number_of s) one
 
 pub sample_is : (s : Stream) (blocks : List Block) (n : BlockName) (b : Block) (p : Place) → AreBlocksOf s blocks → IsAt s blocks n b → Has p b

@@ -1,4 +1,3 @@
 pub mod Items
-pub mod Within
 -- Inner: no other crate cites these.
 pub mod Sides

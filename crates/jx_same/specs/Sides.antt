@@ -1,6 +1,5 @@
 -- One of the two codestreams that are compared, at one of its tiles.
 use Rattle.std.specs.Prelude.{ℕ, ◌<◌, ◌≡◌, ◌==◌, Bool, false, ◌&&◌, not, List, length, Some}
-use Rattle.jx_base.specs.declared.names.Band.{Band}
 use Rattle.jx_base.specs.declared.names.Rect.{Rect}
 use Rattle.jx_base.specs.declared.names.Span.{Span}
 use Rattle.jx_base.specs.declared.pieces.Block.{Block}

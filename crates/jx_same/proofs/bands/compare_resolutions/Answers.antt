@@ -1,4 +1,4 @@
-use Rattle.std.proofs.Common.{◌≡◌, ◌∙◌, ◌+◌, ◌<◌, ◌≤◌, ℕ, subst, sym, arith}
+use Rattle.std.proofs.Common.{◌∙◌, ◌+◌, ◌<◌, ◌≤◌, ℕ, subst, sym, arith}
 use Rattle.jx_geom.specs.Geometry.{shape_of}
 use Rattle.jx_codestream.proofs.RangeLemmas.{shapes_length}
 use Rattle.jx_same.specs.Items.{differs, resolution_items}

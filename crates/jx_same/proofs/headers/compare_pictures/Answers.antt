@@ -1,4 +1,4 @@
-use Rattle.std.proofs.Common.{◌≡◌, ◌∙◌, ◌<◌, ap, sym, length, map, arith, Option, None, Some}
+use Rattle.std.proofs.Common.{◌≡◌, ◌∙◌, ◌<◌, ap, sym, length, map, arith, None, Some}
 use Rattle.std.specs.List.{find}
 use Rattle.jx_base.specs.Joined.{joined}
 use Rattle.jx_same.specs.Items.{differs, picture_fields, size_items, spot_of_component}

@@ -1,4 +1,4 @@
-use Rattle.std.proofs.Common.{◌≡◌, None, ℕ}
+use Rattle.std.proofs.Common.{◌≡◌, None}
 use Rattle.std.specs.List.{find}
 use Rattle.jx_base.specs.Joined.{joined}
 use Rattle.jx_same.specs.Items.{differs, size_items}

@@ -1,4 +1,4 @@
-use Rattle.std.proofs.Common.{◌≡◌, ◌∙◌, ap, sym, List}
+use Rattle.std.proofs.Common.{◌∙◌, ap, sym}
 use Rattle.std.specs.List.{find}
 use Rattle.jx_marker.specs.declared.CompSize.{CompSize}
 use Rattle.jx_codestream.specs.Shapes.{size_in}

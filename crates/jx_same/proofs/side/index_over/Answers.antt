@@ -22,6 +22,6 @@ returns-clause-has c =
     let across = c.block_exponents-across.ensures.across ∙ ap (λ (s : CompShape). block_across s n.res) c.shape_at.ensures.value in
     let down = c.block_exponents-across.ensures.down ∙ ap (λ (s : CompShape). block_down s n.res) c.shape_at.ensures.value in
     let at : number_at c.cells-cells.result (c.args.x / 2 ^ c.block_exponents-across.result.0) (c.args.y / 2 ^ c.block_exponents-across.result.1)
-        ≡ index_over (rect_of_tile g) (shape_of g n.comp) n.res n.band c.args.x c.args.y = rw (c.cells-cells.ensures.value, across, down) refl in
+    ≡ index_over (rect_of_tile g) (shape_of g n.comp) n.res n.band c.args.x c.args.y = rw (c.cells-cells.ensures.value, across, down) refl in
     subst (λ (i : ℕ). InRect (rect_in g n.comp n.res n.band i) c.args.x c.args.y) (sym (c.number.ensures.value ∙ at))
     (over_has (rect_of_tile g) (shape_of g n.comp) n.res n.band c.args.x c.args.y c.requires.place)

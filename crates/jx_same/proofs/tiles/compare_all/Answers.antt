@@ -1,4 +1,4 @@
-use Rattle.std.proofs.Common.{◌≡◌, ◌∙◌, ◌+◌, ◌<◌, ℕ, ap, refl, subst, sym, arith}
+use Rattle.std.proofs.Common.{◌≡◌, ◌∙◌, ◌<◌, ℕ, ap, refl, subst, sym, arith}
 use Rattle.jx_marker.specs.declared.Siz.{Siz}
 use Rattle.jx_codestream.specs.First.{tile_number}
 use Rattle.jx_same.specs.Items.{differs, tile_items}

@@ -1,11 +1,10 @@
-use Rattle.std.proofs.Common.{◌≡◌, ◌∙◌, ◌+◌, ◌<◌, ℕ, List, ap, subst, sym, arith}
+use Rattle.std.proofs.Common.{◌≡◌, ◌∙◌, ◌+◌, List, ap, subst, arith}
 use Rattle.jx_base.specs.declared.names.Rect.{Rect}
 use Rattle.jx_geom.specs.Counts.{tile_blocks}
-use Rattle.jx_geom.specs.Geometry.{Geometry, rect_of_tile}
+use Rattle.jx_geom.specs.Geometry.{rect_of_tile}
 use Rattle.jx_geom.specs.Rects.{tile_rect}
 use Rattle.jx_codestream.specs.First.{canvas_of}
 use Rattle.jx_codestream.specs.Shapes.{shapes_in, shapes_of}
-use Rattle.jx_codestream.specs.TileHeaders.{TileHeaders}
 use Rattle.jx_geom.specs.declared.shape.CompShape.{CompShape}
 use Rattle.jx_geom.specs.Numbering.{blocks_below}
 use Rattle.jx_same.specs.Sides.{SideValue}

@@ -1,4 +1,4 @@
-use Rattle.std.proofs.Common.{◌≡◌, ◌∙◌, ◌<◌, ℕ, length, ap, subst, sym}
+use Rattle.std.proofs.Common.{◌∙◌, ◌<◌, ℕ, length, ap, subst, sym}
 use Rattle.jx_geom.specs.Geometry.{Geometry, shape_of}
 use Rattle.jx_codestream.proofs.RangeLemmas.{shapes_length}
 use Rattle.jx_same.specs.Sides.{SideValue, geometry_at}
