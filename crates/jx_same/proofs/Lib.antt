@@ -1,0 +1,9 @@
+mod BlockLemmas
+mod CellLemmas
+mod FieldLemmas
+mod FindLemmas
+mod HeaderLemmas
+mod PlaceLemmas
+mod SampleLemmas
+mod SegmentLemmas
+mod TileLemmas

@@ -1,0 +1,42 @@
+use Rattle.std.proofs.Common.{◌≡◌, ◌∙◌, ◌<◌, ℕ, ap, refl, subst, sym, arith}
+use Rattle.jx_marker.specs.declared.Siz.{Siz}
+use Rattle.jx_codestream.specs.First.{tile_number}
+use Rattle.jx_same.specs.Items.{differs, tile_items}
+use Rattle.jx_same.specs.Sides.{meaning_in}
+use Rattle.jx_same.proofs.FindLemmas.{joined_begins, joined_goes, joined_stops, nothing}
+use Rattle.jx_same.proofs.HeaderLemmas.{siz_back}
+use Rattle.jx_same.proofs.TileLemmas.{behind_of, tile_found}
+use Rattle.jx_same.proofs.tiles.compare_all.Goals as goal
+
+pub loop-tile-init : goal.loop-tile-init
+loop-tile-init c = record {
+  first_a = refl;
+  first_b = refl;
+  none = joined_begins (differs (meaning_in c.args.a) (meaning_in c.args.b)) (tile_items c.args.a.stream.now);
+}
+
+pub new-requires-in-loop-tile-clause-tile : goal.new-requires-in-loop-tile-clause-tile
+new-requires-in-loop-tile-clause-tile c =
+    let same = siz_back c.args.a.stream.now c.args.b.stream.now c.args.a.blocks.now c.args.b.blocks.now c.requires.siz in
+    let tiles : tile_number c.args.a.stream.now.siz ≡ tile_number c.args.b.stream.now.siz = ap (λ (z : Siz). tile_number z) same in
+    let below : c.loop-tile.tile < tile_number c.args.a.stream.now.siz = omega (arith, c.loop-tile-test.true, c.tile_count-tile-end.ensures) in
+    subst (λ (n : ℕ). c.loop-tile.tile < n) tiles below
+
+pub returns-in-Some : goal.returns-in-Some
+returns-in-Some c =
+    let a = c.args.a in
+    let b = c.args.b in
+    let found = tile_found a b c.in_ok-side_a.side_a c.in_ok-side_b.side_b c.loop-tile.tile c.in_ok-spot.field-0 c.in_ok-side_a.ensures c.in_ok-side_b.ensures c.in_ok-spot.ensures in
+    let below : c.loop-tile.tile < tile_number a.stream.now.siz = omega (arith, c.loop-tile-test.true, c.tile_count-tile-end.ensures) in
+    sym (joined_stops (differs (meaning_in a) (meaning_in b)) (tile_items a.stream.now) c.loop-tile.tile (tile_number a.stream.now.siz) c.in-Some.spot c.loop-tile.invariant.none (sym found ∙ c.in-Some.is) below)
+
+pub loop-tile-preserved : goal.loop-tile-preserved
+loop-tile-preserved c =
+    let a = c.args.a in
+    let b = c.args.b in
+    let found = tile_found a b c.in_ok-side_a.side_a c.in_ok-side_b.side_b c.loop-tile.tile c.in_ok-spot.field-0 c.in_ok-side_a.ensures c.in_ok-side_b.ensures c.in_ok-spot.ensures in
+    record {
+      first_a = behind_of a c.in_ok-side_a.side_a c.loop-tile.tile c.behind-first_a.result c.in_ok-side_a.ensures c.behind-first_a.ensures;
+      first_b = behind_of b c.in_ok-side_b.side_b c.loop-tile.tile c.behind-first_b.result c.in_ok-side_b.ensures c.behind-first_b.ensures;
+      none = joined_goes (differs (meaning_in a) (meaning_in b)) (tile_items a.stream.now) c.loop-tile.tile c.loop-tile.invariant.none (sym found ∙ nothing c.in_ok-spot.field-0 (λ x is. c.in_default.not-Some x is));
+    }

@@ -1,0 +1,3 @@
+pub mod Items
+-- Inner: no other crate cites these.
+pub mod Sides

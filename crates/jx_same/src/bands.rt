@@ -1,0 +1,122 @@
+//! A tile-component of two codestreams: its headers, then its bands.
+
+ghost use Rattle.std.specs.Prelude.{◌≡◌, ◌<◌, ◌≤◌, ◌+◌, find, length, IfOk};
+ghost use Rattle.jx_base.specs.Joined.{joined};
+ghost use Rattle.jx_base.specs.Places.{size_of};
+ghost use Rattle.jx_geom.specs.Geometry.{HasResolution, blocks_in, shape_of};
+ghost use Rattle.jx_same.specs.Items.{band_items, block_items, component_items, differs, resolution_items};
+ghost use Rattle.jx_same.specs.Sides.{AreAligned, AreBeside, HasBandOf, geometry_at, meaning_at};
+
+use crate::Spot;
+use crate::blocks::compare_block;
+use crate::headers::{spot_of_band, spot_of_component, unlike_coding, unlike_step};
+use crate::side::{BandName, Side};
+use jx_base::{Band, NoMemory};
+use std::alloc::Global;
+
+/// The first place of a band of which the coefficients differ, code-block by code-block.
+fn compare_blocks(
+    alloc: Global,
+    a: &Side<'_>,
+    b: &Side<'_>,
+    name: BandName,
+) -> Result<Option<Spot>, NoMemory>
+    requires aligned { AreAligned a.now b.now name.comp }
+    requires band { HasBandOf a.now name }
+    ensures { IfOk result (λ found. found ≡ find (differs (meaning_at a.now) (meaning_at b.now))
+        (joined (block_items (geometry_at a.now) name.comp name.res name.band) 0 (size_of (blocks_in (geometry_at a.now) name.comp name.res name.band)))) }
+{
+    for index in 0..a.count(name) {
+        if let Some(spot) = compare_block(alloc, a, b, name, index)? {
+            return Ok(Some(spot));
+        }
+    }
+    Ok(None)
+}
+
+/// The first value of a band that differs: its step, then its coefficients.
+fn compare_band(
+    alloc: Global,
+    a: &Side<'_>,
+    b: &Side<'_>,
+    name: BandName,
+) -> Result<Option<Spot>, NoMemory>
+    requires aligned { AreAligned a.now b.now name.comp }
+    requires band { HasBandOf a.now name }
+    ensures { IfOk result (λ found. found ≡ find (differs (meaning_at a.now) (meaning_at b.now))
+        (band_items (geometry_at a.now) name.comp name.res name.band)) }
+{
+    if let Some(field) = unlike_step(a.step(name), b.step(name)) {
+        return Ok(Some(spot_of_band(a.tile(), name, field)));
+    }
+    compare_blocks(alloc, a, b, name)
+}
+
+/// The first value of a resolution that differs, band by band.
+fn compare_resolution(
+    alloc: Global,
+    a: &Side<'_>,
+    b: &Side<'_>,
+    comp: u16,
+    res: u8,
+) -> Result<Option<Spot>, NoMemory>
+    requires aligned { AreAligned a.now b.now comp }
+    requires res { HasResolution (geometry_at a.now) comp res }
+    ensures { IfOk result (λ found. found ≡ find (differs (meaning_at a.now) (meaning_at b.now)) (resolution_items (geometry_at a.now) comp res)) }
+{
+    let bands = Band::of_resolution(res);
+    for band in bands {
+        let name = BandName {
+            comp,
+            res,
+            band: *band,
+        };
+        if let Some(spot) = compare_band(alloc, a, b, name)? {
+            return Ok(Some(spot));
+        }
+    }
+    Ok(None)
+}
+
+/// The first value of the resolutions of a tile-component that differs.
+fn compare_resolutions(
+    alloc: Global,
+    a: &Side<'_>,
+    b: &Side<'_>,
+    comp: u16,
+    levels: u8,
+) -> Result<Option<Spot>, NoMemory>
+    requires aligned { AreAligned a.now b.now comp }
+    requires comp { comp < length a.now.stream.siz.comps }
+    requires levels { levels ≡ (shape_of (geometry_at a.now) comp).levels }
+    requires few { levels ≤ 32 }
+    ensures { IfOk result (λ found. found ≡ find (differs (meaning_at a.now) (meaning_at b.now)) (joined (resolution_items (geometry_at a.now) comp) 0 (levels + 1))) }
+{
+    for res in 0..levels + 1 {
+        if let Some(spot) = compare_resolution(alloc, a, b, comp, res)? {
+            return Ok(Some(spot));
+        }
+    }
+    Ok(None)
+}
+
+/// The first value of a tile-component that differs.
+///
+/// # Errors
+///
+/// `NoMemory` where memory is refused.
+pub(crate) fn compare_component(
+    alloc: Global,
+    a: &Side<'_>,
+    b: &Side<'_>,
+    comp: u16,
+) -> Result<Option<Spot>, NoMemory>
+    requires beside { AreBeside a.now b.now }
+    requires comp { comp < length a.now.stream.siz.comps }
+    ensures { IfOk result (λ found. found ≡ find (differs (meaning_at a.now) (meaning_at b.now)) (component_items (geometry_at a.now) comp)) }
+{
+    if let Some(field) = unlike_coding(&a.params(comp), &b.params(comp)) {
+        return Ok(Some(spot_of_component(a.tile(), comp, field)));
+    }
+    compare_resolutions(alloc, a, b, comp, a.levels(comp))
+}
