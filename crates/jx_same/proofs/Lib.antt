@@ -7,3 +7,4 @@ mod PlaceLemmas
 mod SampleLemmas
 mod SegmentLemmas
 mod TileLemmas
+mod WithinLemmas

@@ -5,6 +5,7 @@ ghost use Rattle.jx_plan.specs.Meaning.{meaning_of};
 ghost use Rattle.jx_plan.specs.Plan.{MayBePlanned};
 ghost use Rattle.jx_same.specs.Items.{answer_of, differs, items_of};
 ghost use Rattle.jx_same.specs.Sides.{IsInput, meaning_in};
+ghost use Rattle.jx_same.specs.Within.{MeanOne};
 ghost use Rattle.jx_same.specs.declared.answer.Answer.TheVariants as told;
 
 use crate::headers::compare_pictures;
@@ -48,6 +49,7 @@ pub fn compare(
     requires a { MayBePlanned sa.now ba.now }
     requires b { MayBePlanned sb.now bb.now }
     ensures first { IfOk result (λ answer. answer ≡ answer_of sa.now (meaning_of sa.now ba.now) (meaning_of sb.now bb.now)) }
+    ensures within { IfOk result (λ answer. MeanOne (meaning_of sa.now ba.now) (meaning_of sb.now bb.now) → answer ≡ told.Same) }
     ensures same { IfOk result (λ answer. meaning_of sa.now ba.now ≡ meaning_of sb.now bb.now → answer ≡ told.Same) }
 {
     let a = Input {
