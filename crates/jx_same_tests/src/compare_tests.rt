@@ -1,0 +1,259 @@
+//! Pairs of codestreams, and what is told of them.
+
+ghost use Rattle.std.specs.Prelude.{IfSome};
+ghost use Rattle.jx_plan.specs.Plan.{MayBePlanned};
+
+use crate::checks::equal_at;
+use crate::hex::bytes_of;
+use jx_base::{Band, Block};
+use jx_codestream::{Stream, read_stream};
+use jx_same::{Answer, Field, Spot, compare};
+use jx_tier2_reader::gather;
+use std::alloc::Global;
+use std::test::Fail;
+
+// SOC and SIZ up to the components, of one place in one tile, of two places in two tiles, and of 8 by 8 places.
+const ONE: &str =
+    "FF4F FF51 0029 0000 00000001 00000001 00000000 00000000 00000001 00000001 00000000 00000000";
+
+const TWO: &str =
+    "FF4F FF51 0029 0000 00000002 00000001 00000000 00000000 00000001 00000001 00000000 00000000";
+
+const WIDE: &str =
+    "FF4F FF51 0029 0000 00000008 00000008 00000000 00000000 00000008 00000008 00000000 00000000";
+
+const COMP: &str = "0001 07 01 01";
+// Code-blocks of 64 by 64, of 8 by 8 and of 4 by 4; each pass terminated; one level; the 9-7 wavelet.
+const PLAIN: &str = "FF52 000C 00 00 0001 00 00 04 04 00 01";
+
+const EIGHT: &str = "FF52 000C 00 00 0001 00 00 01 01 00 01";
+
+const FOUR: &str = "FF52 000C 00 00 0001 00 00 00 00 00 01";
+
+const ENDED: &str = "FF52 000C 00 00 0001 00 00 04 04 04 01";
+
+const LEVEL: &str = "FF52 000C 00 00 0001 00 01 04 04 00 01";
+
+const LOSSY: &str = "FF52 000C 00 00 0001 00 00 04 04 00 00";
+// The exponent is 8; 9; with one guard bit; four bands; scalar quantization, derived and expounded, with mantissas 0 and 1.
+const STEP: &str = "FF5C 0004 40 40";
+
+const FINER: &str = "FF5C 0004 40 48";
+
+const GUARD: &str = "FF5C 0004 20 40";
+
+const BANDS: &str = "FF5C 0007 40 40 40 40 40";
+
+const DERIVED: &str = "FF5C 0005 41 4000";
+
+const EXPOUNDED: &str = "FF5C 0005 42 4000";
+
+const MANTISSA: &str = "FF5C 0005 42 4001";
+
+const SHIFTED: &str = "FF5C 0004 40 40 FF5E 0005 00 00 01";
+
+const EMPTY: &str = "FF90 000A 0000 0000000F 00 01 FF93 00 FFD9";
+
+const EMPTIES: &str = "FF90 000A 0000 00000010 00 01 FF93 00 00 FFD9";
+
+// What a block of one coding pass has: +1, -1, and 0, which is a plane more than nothing.
+const PLUS: &str = "FF90 000A 0000 00000011 00 01 FF93 C0 21 03 FFD9";
+
+const MINUS: &str = "FF90 000A 0000 00000011 00 01 FF93 C0 21 07 FFD9";
+
+const ZERO: &str = "FF90 000A 0000 00000011 00 01 FF93 C0 21 60 FFD9";
+// +2 in four passes: one segment, and four.
+const PASSES: &str = "FF90 000A 0000 00000012 00 01 FF93 C0 74 10 01 FFD9";
+
+const SEGMENTS: &str = "FF90 000A 0000 00000019 00 01 FF93 C0 74 52 40 03 FF7F FF7F FF7F FFD9";
+// Two tiles: +1 and +1, +1 and -1.
+const BOTH: &str =
+    "FF90 000A 0000 00000011 00 01 FF93 C0 21 03 FF90 000A 0001 00000011 00 01 FF93 C0 21 03 FFD9";
+
+const UNLIKE: &str =
+    "FF90 000A 0000 00000011 00 01 FF93 C0 21 03 FF90 000A 0001 00000011 00 01 FF93 C0 21 07 FFD9";
+
+/// A codestream by its parts.
+type Parts = [&'static str; 5];
+
+/// What is told of two codestreams: nothing where they are the same.
+type Row = (Parts, Parts, Option<Field>);
+
+static ROWS: [Row; 19] = [
+    (
+        [ONE, COMP, PLAIN, STEP, EMPTY],
+        [ONE, COMP, PLAIN, STEP, EMPTY],
+        None,
+    ),
+    (
+        [ONE, COMP, PLAIN, STEP, EMPTY],
+        [ONE, COMP, PLAIN, FINER, EMPTY],
+        Some(Field::Exponent),
+    ),
+    (
+        [ONE, COMP, PLAIN, STEP, PLUS],
+        [ONE, COMP, PLAIN, STEP, MINUS],
+        Some(Field::Coef),
+    ),
+    (
+        [ONE, COMP, PLAIN, STEP, EMPTY],
+        [ONE, COMP, PLAIN, STEP, ZERO],
+        Some(Field::Coef),
+    ),
+    (
+        [ONE, COMP, PLAIN, STEP, ZERO],
+        [ONE, COMP, PLAIN, STEP, EMPTY],
+        Some(Field::Coef),
+    ),
+    (
+        [ONE, COMP, PLAIN, STEP, PASSES],
+        [ONE, COMP, ENDED, STEP, SEGMENTS],
+        None,
+    ),
+    (
+        [ONE, COMP, ENDED, STEP, SEGMENTS],
+        [ONE, COMP, PLAIN, STEP, PASSES],
+        None,
+    ),
+    (
+        [ONE, COMP, PLAIN, STEP, PLUS],
+        [ONE, COMP, PLAIN, STEP, PASSES],
+        Some(Field::Coef),
+    ),
+    (
+        [WIDE, COMP, EIGHT, STEP, EMPTY],
+        [WIDE, COMP, FOUR, STEP, EMPTY],
+        None,
+    ),
+    (
+        [WIDE, COMP, FOUR, STEP, EMPTY],
+        [WIDE, COMP, EIGHT, STEP, EMPTY],
+        None,
+    ),
+    (
+        [ONE, COMP, PLAIN, STEP, EMPTY],
+        [WIDE, COMP, PLAIN, STEP, EMPTY],
+        Some(Field::Canvas),
+    ),
+    (
+        [ONE, COMP, PLAIN, STEP, EMPTY],
+        [ONE, "0001 87 01 01", PLAIN, STEP, EMPTY],
+        Some(Field::Depth),
+    ),
+    (
+        [ONE, COMP, PLAIN, STEP, EMPTY],
+        [ONE, "0001 07 02 01", PLAIN, STEP, EMPTY],
+        Some(Field::Sampling),
+    ),
+    (
+        [ONE, COMP, PLAIN, BANDS, EMPTY],
+        [ONE, COMP, LEVEL, BANDS, EMPTIES],
+        Some(Field::Levels),
+    ),
+    (
+        [ONE, COMP, PLAIN, EXPOUNDED, EMPTY],
+        [ONE, COMP, LOSSY, EXPOUNDED, EMPTY],
+        Some(Field::Wavelet),
+    ),
+    (
+        [ONE, COMP, LOSSY, DERIVED, EMPTY],
+        [ONE, COMP, LOSSY, EXPOUNDED, EMPTY],
+        Some(Field::Quant),
+    ),
+    (
+        [ONE, COMP, PLAIN, STEP, EMPTY],
+        [ONE, COMP, PLAIN, GUARD, EMPTY],
+        Some(Field::Guard),
+    ),
+    (
+        [ONE, COMP, LOSSY, EXPOUNDED, EMPTY],
+        [ONE, COMP, LOSSY, MANTISSA, EMPTY],
+        Some(Field::Mantissa),
+    ),
+    (
+        [ONE, COMP, PLAIN, STEP, EMPTY],
+        [ONE, COMP, PLAIN, SHIFTED, EMPTY],
+        Some(Field::Shift),
+    ),
+];
+
+// One file of the parts, one behind another.
+fn file_of(alloc: Global, parts: &Parts) -> Option<Vec<u8>> {
+    let mut file = Vec::new(alloc);
+    for part in parts {
+        let bytes = bytes_of(alloc, part)?;
+        file.extend_from_slice(&bytes).ok()?;
+    }
+    Some(file)
+}
+
+// A file's headers and blocks, where it isn't refused.
+#[tactic(auto, using(jx_plan::proofs::PlanLemmas::gathered_may))]
+fn input<'a>(alloc: Global, file: &'a [u8]) -> Option<(Stream, Vec<Block<'a>>)>
+    ensures { IfSome result (λ r. MayBePlanned r.0 r.1.items) }
+{
+    if file.len() > 1 << 28 {
+        return None;
+    }
+    let Ok(stream) = read_stream(alloc, file) else {
+        return None;
+    };
+    let Ok(blocks) = gather(alloc, file, &stream) else {
+        return None;
+    };
+    Some((stream, blocks))
+}
+
+// What is told of two files; none where one of them is refused.
+fn answer(alloc: Global, a: &Parts, b: &Parts) -> Option<Answer> {
+    let (first, second) = (file_of(alloc, a)?, file_of(alloc, b)?);
+    let (sa, ba) = input(alloc, &first)?;
+    let (sb, bb) = input(alloc, &second)?;
+    compare(alloc, &sa, &ba, &sb, &bb).ok()
+}
+
+// A value of the first tile and component, at the first place.
+fn at_first(field: Field) -> Answer {
+    Answer::Differs(Spot {
+        field,
+        tile: 0,
+        comp: 0,
+        res: 0,
+        band: Band::LL,
+        x: 0,
+        y: 0,
+    })
+}
+
+#[test]
+fn first_values_that_differ(rt: HostRuntime) -> Result<(), Fail> {
+    for (number, (a, b, field)) in ROWS.iter().enumerate() {
+        let want = match field {
+            None => Answer::Same,
+            Some(field) => at_first(*field),
+        };
+        equal_at(&rt, &number, answer(rt.alloc(), a, b), Some(want));
+    }
+    Ok(())
+}
+
+// The coefficient of the second tile stands in the second column of its band.
+#[test]
+fn a_place_in_the_band(rt: HostRuntime) -> Result<(), Fail> {
+    let want = Answer::Differs(Spot {
+        field: Field::Coef,
+        tile: 1,
+        comp: 0,
+        res: 0,
+        band: Band::LL,
+        x: 1,
+        y: 0,
+    });
+    let found = answer(
+        rt.alloc(),
+        &[TWO, COMP, PLAIN, STEP, BOTH],
+        &[TWO, COMP, PLAIN, STEP, UNLIKE],
+    );
+    equal_at(&rt, &"tiles", found, Some(want));
+    Ok(())
+}
