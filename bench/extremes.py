@@ -5,9 +5,9 @@ layers, many tile-parts, many precincts; and on a picture whose blocks are kept 
 usage: bench/extremes.py PROGRAM [PROGRAM ..]
 
 Makes the files in a temporary folder and runs each program on each of them in turn, three times. Where a row says "reading alone" the run is
-the same with precincts that are refused once all is read (`--precincts 1x1`, choice 2). Prints medians of processor seconds, and the most
-memory of a run, beside that of the smallest codestream, also in files. The picture is coded by Debian's OpenJPEG tools (libopenjp2-tools);
-without them its rows are left out. Else Python's standard library alone is needed.
+the same with precincts that are refused once all is read (`--precincts 1x1`, choice 2). Prints medians of processor seconds and of seconds by
+the clock, and the most memory of a run, beside that of the smallest codestream, also in files. The picture is coded by Debian's OpenJPEG tools
+(libopenjp2-tools); without them its rows are left out. Debian's `time` and Python's standard library are needed.
 """
 
 import itertools
@@ -140,6 +140,12 @@ FILES = [
 ANEW = [(f"coded anew, {threads} threads", ["--style", "terminate", "--threads", threads]) for threads in ("1", "4", "64")]
 
 
+def memory_of(words):
+    """The most memory in KiB of one run, by Debian's `time`, since a process that Python starts begins with Python's own."""
+    ran = subprocess.run(["/usr/bin/time", "-q", "-f", "%M", *words], stdout=subprocess.DEVNULL, stderr=subprocess.PIPE)
+    return int(ran.stderr.decode().split()[-1])
+
+
 def smallest():
     return codestream([siz(1, 1, 0, 0, (1, 1)), cod(), qcd(0)], [(0, 0, 1, b"\0")])
 
@@ -181,11 +187,11 @@ def main(words):
             size = os.path.getsize(source)
             print(f"{name}; {size:,} bytes")
             for program, (what, more) in itertools.product(words, runs):
-                base = timed([program, "transcode", least, target])[2]
+                base = memory_of([program, "transcode", least, target])
                 found = [timed([program, "transcode", source, target, *more]) for _ in range(RUNS)]
                 seconds = statistics.median(run[1] for run in found)
                 clock = statistics.median(run[0] for run in found)
-                most = max(run[2] for run in found) - base
+                most = memory_of([program, "transcode", source, target, *more]) - base
                 print(f"    {what}: {seconds:.3f} s of the processor, {clock:.3f} by the clock; {most:,} KiB, {most * 1024 / size:.2f} files; {program}: {found[0][3]}", flush=True)
 
 
