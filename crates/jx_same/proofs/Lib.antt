@@ -3,6 +3,7 @@ mod CellLemmas
 mod FieldLemmas
 mod FindLemmas
 mod HeaderLemmas
+mod OneLemmas
 mod PlaceLemmas
 mod SampleLemmas
 mod SegmentLemmas
