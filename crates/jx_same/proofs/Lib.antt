@@ -7,5 +7,7 @@ mod OneLemmas
 mod PlaceLemmas
 mod SampleLemmas
 mod SegmentLemmas
+mod SharedLemmas
+mod ShelfLemmas
 mod TileLemmas
 mod WithinLemmas

@@ -1,5 +1,5 @@
 -- Two codestreams of which no value differs: what both mean within their canvas is one.
-use Rattle.std.proofs.Common.{◌≡◌, ◌∙◌, ◌+◌, ◌<◌, ◌≤◌, ◌==◌, ℕ, List, [], ◌∷◌, ◌++◌, map, length, ap, refl, sym, subst, arith, Bool, true, false, not, ◌&&◌, Option, None, Some}
+use Rattle.std.proofs.Common.{◌≡◌, ◌∙◌, ◌+◌, ◌<◌, ◌≤◌, ◌==◌, ℕ, List, [], ◌∷◌, ◌++◌, length, ap, refl, sym, subst, arith, Bool, true, false, ◌&&◌, Option, None, Some}
 use Rattle.std.specs.List.{find, flat_map, slice_get}
 use Rattle.std.specs.Option.{option_map}
 use Rattle.std.proofs.lemmas.Bool.{and_parts, eqb-true, not-false}
@@ -26,15 +26,15 @@ use Rattle.jx_codestream.specs.Params.{params_of, step_of}
 use Rattle.jx_codestream.specs.Shapes.{geometry, shapes_of}
 use Rattle.jx_tier2_reader.specs.BlockOf.{AreBlocksOf}
 use Rattle.jx_geom.specs.Numbering.{IsBlock}
-use Rattle.jx_plan.specs.Meaning.{Component, Meaning, Place, component_of, lies_in, meaning_of, sample_at, sample_in}
+use Rattle.jx_plan.specs.Meaning.{Place, component_of, lies_in, meaning_of, sample_at, sample_in}
 use Rattle.jx_plan.specs.Plan.{MayBePlanned}
 use Rattle.jx_same.specs.declared.answer.Field.{Field}
 use Rattle.jx_same.specs.declared.answer.Field.TheVariants as field
 use Rattle.jx_same.specs.declared.answer.Spot.{Spot}
 use Rattle.jx_same.specs.declared.side.BandName.{BandName}
-use Rattle.jx_same.specs.Items.{band_items, block_items, coding_fields, coding_items, coef_item, coef_items, coef_or, component_items, differs, items_of, picture_items, rect_in, resolution_items, same_coef, same_sign, spot_of_band, spot_of_coef, spot_of_component, step_fields, step_items, tile_items}
-use Rattle.jx_same.specs.Sides.{AreAligned, AreBeside, HasBandOf, SideValue, geometry_at, meaning_at, unlike_coding, unlike_step}
-use Rattle.jx_same.specs.Within.{IsThere, MeanOne}
+use Rattle.jx_same.specs.Items.{band_items, block_items, coding_fields, coding_items, coef_item, coef_or, component_items, differs, items_of, picture_items, rect_in, resolution_items, same_coef, same_sign, spot_of_band, spot_of_coef, spot_of_component, step_fields, step_items, tile_items}
+use Rattle.jx_same.specs.Sides.{AreAligned, HasBandOf, SideValue, unlike_coding, unlike_step}
+use Rattle.jx_same.specs.Within.{MeanOne}
 use Rattle.jx_same.proofs.BlockLemmas.{aligned_has, place_over, shape_is, there_in}
 use Rattle.jx_same.proofs.FieldLemmas.{alike, coding_found, coding_same, step_found}
 use Rattle.jx_same.proofs.FindLemmas.{find_there, joined_each, none_left, none_right}
