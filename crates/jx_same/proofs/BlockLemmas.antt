@@ -1,12 +1,13 @@
 -- The coefficients of a code-block of one codestream beside those of the other.
-use Rattle.std.proofs.Common.{◌≡◌, ◌∙◌, ℕ, ◌+◌, ◌-◌, ◌<◌, ◌≤◌, ◌==◌, List, length, get_or, ap, sym, subst, refl, arith, Bool, true, false, not, ◌&&◌, if◌then◌else◌, Option, None, Some}
-use Rattle.std.specs.List.{find}
+use Rattle.std.proofs.Common.{◌≡◌, ◌∙◌, ℕ, ◌+◌, ◌-◌, ◌<◌, ◌≤◌, ◌==◌, List, [], length, get_or, ap, sym, subst, refl, arith, Bool, true, false, not, ◌&&◌, if◌then◌else◌, Option, None, Some}
+use Rattle.std.specs.List.{find, slice_get}
 use Rattle.std.proofs.lemmas.Bool.{and_from, eq-eqb}
 use Rattle.jx_base.specs.declared.names.Band.{Band}
 use Rattle.jx_base.specs.declared.names.Rect.{Rect}
 use Rattle.jx_base.specs.declared.pieces.Block.{Block}
 use Rattle.jx_base.specs.Places.{InRect, column_at, row_at, size_of}
 use Rattle.jx_base.specs.Sound.{IsSound}
+use Rattle.jx_base.proofs.Lists.{some_none}
 use Rattle.jx_base.proofs.Raster.{raster_in}
 use Rattle.jx_geom.specs.declared.shape.Canvas.{Canvas}
 use Rattle.jx_geom.specs.declared.shape.CompShape.{CompShape}
@@ -27,7 +28,7 @@ use Rattle.jx_same.specs.declared.answer.Field.TheVariants as field
 use Rattle.jx_same.specs.declared.answer.Spot.{Spot}
 use Rattle.jx_same.specs.declared.side.BandName.{BandName}
 use Rattle.jx_same.specs.Items.{coef_item, coef_items, coef_or, differs, rect_in, same_coef, same_sign, spot_of_coef}
-use Rattle.jx_same.specs.Sides.{AreAligned, AreAlike, AreBeside, Covers, HasBandOf, SideValue, geometry_at, meaning_at}
+use Rattle.jx_same.specs.Sides.{AreAligned, AreAlike, AreBeside, AreOnShelf, Covers, HasBandOf, SideValue, agrees_at, geometry_at, meaning_at, place_in}
 use Rattle.jx_same.proofs.FindLemmas.{joined_all, one_none}
 use Rattle.jx_same.proofs.PlaceLemmas.{in_band, same_band}
 
@@ -123,6 +124,34 @@ coef_differs a b n x y rect k u v r tile here there column row in_x in_y is =
     ap (λ (o : Option Coef). not (same_coef (coef_or o) (coef_or (sample_at b.blocks p)))) own
     ∙ ap (λ (o : Option Coef). not (same_coef (sample_in p x) (coef_or o))) other
     ∙ ap not (sym (is p (sym column) (sym row)))
+
+-- a shelf on which no block stands
+pub none_on_shelf : (v : SideValue) (n : BandName) (slots : List (Option Block)) → slots ≡ [] → AreOnShelf v n slots
+none_on_shelf v n slots none i b at = absurd (some_none (Some b) (sym at ∙ ap (λ (xs : List (Option Block)). slice_get xs i) none))
+
+-- the same where a codestream's coefficient is asked
+pub agree_here : (v : SideValue) (n : BandName) (x y : Block) (u w : ℕ) (r : Bool) → Covers v n y → InRect y.rect u w
+    → ((p : Place) → p.x ≡ u → p.y ≡ w → r ≡ same_coef (sample_in p x) (sample_in p y)) → r ≡ agrees_at v n x u w
+agree_here v n x y u w r covers inside is =
+    let p : Place = place_in v n u w in
+    is p refl refl ∙ ap (λ (o : Option Coef). same_coef (sample_in p x) (coef_or o)) (sym (covers.samples u w inside))
+
+place_by : ℕ → BandName → ℕ → ℕ → Place
+place_by t n x y = record { tile = t; comp = n.comp; res = n.res; band = n.band; x = x; y = y }
+
+place_same : (n : BandName) (t s x u y v : ℕ) → t ≡ s → x ≡ u → y ≡ v → place_by t n x y ≡ place_by s n u v
+place_same n t s x u y v e1 e2 e3 = rw (e1, e2, e3) refl
+
+pub coef_unlike : (a b : SideValue) (n : BandName) (x : Block) (rect : Rect) (k u v : ℕ) (r : Bool) → a.tile ≡ b.tile → Covers a n x → u ≡ column_at rect k → v ≡ row_at rect k
+    → InRect x.rect u v → r ≡ agrees_at b n x u v → differs (meaning_at a) (meaning_at b) (spot_of_coef a.tile n.comp n.res n.band rect k) ≡ not r
+unfolding meaning_of place_by
+coef_unlike a b n x rect k u v r tile here column row inside is =
+    let p : Place = place_by a.tile n (column_at rect k) (row_at rect k) in
+    let at : InRect x.rect (column_at rect k) (row_at rect k) = subst (λ (j : ℕ). InRect x.rect (column_at rect k) j) row (subst (λ (j : ℕ). InRect x.rect j v) column inside) in
+    let own = sample_there a n x a.tile (column_at rect k) (row_at rect k) refl here at in
+    ap (λ (o : Option Coef). not (same_coef (coef_or o) (coef_or (sample_at b.blocks p)))) own
+    ∙ ap (λ (z : Place). not (same_coef (sample_in z x) (coef_or (sample_at b.blocks z)))) (place_same n a.tile b.tile (column_at rect k) u (row_at rect k) v tile (sym column) (sym row))
+    ∙ ap not (sym is)
 
 -- ---- blocks with the same coefficients
 sign_same : (b : Bool) → same_sign b b ≡ true

@@ -53,7 +53,7 @@ self_none m [] = refl
 self_none m (s ∷ items) = let e : agree s.field m m s ≡ true = agree_self s.field m s in rw e (self_none m items)
 
 -- ---- no value of the picture differs
-map_none : {X Y : Type 0} (f : X → Y) (o : Option X) → option_map f o ≡ None → o ≡ None
+pub map_none : {X Y : Type 0} (f : X → Y) (o : Option X) → option_map f o ≡ None → o ≡ None
 map_none f None e = refl
 map_none f (Some x) e = absurd (cc)
 

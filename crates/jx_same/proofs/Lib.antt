@@ -3,8 +3,11 @@ mod CellLemmas
 mod FieldLemmas
 mod FindLemmas
 mod HeaderLemmas
+mod OneLemmas
 mod PlaceLemmas
 mod SampleLemmas
 mod SegmentLemmas
+mod SharedLemmas
+mod ShelfLemmas
 mod TileLemmas
 mod WithinLemmas

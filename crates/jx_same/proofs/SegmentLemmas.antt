@@ -1,7 +1,8 @@
 -- The segments of a code-block by the pieces that they came in.
-use Rattle.std.proofs.Common.{◌≡◌, ◌∙◌, ℕ, zero, suc, ◌+◌, ◌-◌, ◌==◌, ◌^◌, ◌<◌, ◌≤◌, List, [], ◌∷◌, ◌++◌, map, length, take, drop, get_or, ap, sym, refl, add-one, arith, append_assoc, append-nil, length-append, Bool, true, false, cond, if◌then◌else◌}
+use Rattle.std.proofs.Common.{◌≡◌, ◌∙◌, ℕ, zero, suc, ◌+◌, ◌-◌, ◌==◌, ◌^◌, ◌<◌, ◌≤◌, List, [], ◌∷◌, ◌++◌, inl, inr, map, length, take, drop, get_or, slice_index_or, slice_set, Vec, Global, ap, sym, refl, add-one, arith, append_assoc, append-nil, length-append, Bool, true, false, cond, if◌then◌else◌}
 use Rattle.std.specs.List.{All, filter, flat_map, range_with_len}
-use Rattle.std.proofs.lemmas.List.{drop_more, map-append, take_more}
+use Rattle.std.proofs.lemmas.Bool.{cases_eq, cond-false, cond-true, eq-eqb, ne_eqb}
+use Rattle.std.proofs.lemmas.List.{drop_more, length-map, map-append, take_more}
 use Rattle.std.proofs.lemmas.List.Elements.{All-cons, All-nil}
 use Rattle.std.proofs.lemmas.List.Sums.{sum_by-cons}
 use Rattle.std.proofs.Math.Seq.{take-length}
@@ -9,10 +10,10 @@ use Rattle.jx_base.specs.declared.pieces.Block.{Block}
 use Rattle.jx_base.specs.declared.pieces.Piece.{Piece}
 use Rattle.jx_base.specs.Passes.{end_pass}
 use Rattle.jx_base.specs.Pieces.{PieceValue, bytes_in, value_of}
-use Rattle.jx_base.proofs.Lists.{range_push}
 use Rattle.jx_tier1_specs.specs.Short.{AreShort}
 use Rattle.jx_codeblock.specs.Recoding.{own_segments}
 use Rattle.jx_codeblock.specs.Segments.{ends_below, segment_at, segment_count, segments_of}
+use Rattle.jx_same.specs.Lists.{bytes_at}
 
 -- ---- how many passes end a segment
 pub ends_next : (style n : ℕ) → ends_below style (n + 1) ≡ ends_below style n + (if end_pass style n then 1 else 0)
@@ -62,21 +63,78 @@ pub segment_ends : (style number : ℕ) (pieces : List Piece) (k : ℕ) (xs : Li
 segment_ends style number pieces k xs le old =
     sym (append-nil xs) ∙ ap (λ (ps : List Piece). xs ++ segment_at style (map value_of ps) number) (sym (drop_all pieces k le)) ∙ old
 
--- ---- all segments
-pub segments_go : {X : Type 0} (f : X → List ℕ) (style : ℕ) (pieces : List PieceValue) (n : ℕ) (x : X) (old new : List X) → map f old ≡ map (segment_at style pieces) (range_with_len 0 n)
-    → f x ≡ segment_at style pieces n → new ≡ old ++ x ∷ [] → map f new ≡ map (segment_at style pieces) (range_with_len 0 (n + 1))
-segments_go {X} f style pieces n x old new before here step =
-    let zero_more : 0 + n ≡ n = omega arith in
-    ap (map f) step ∙ map-append f old (x ∷ []) ∙ ap (λ (ss : List (List ℕ)). ss ++ f x ∷ []) before
-    ∙ ap (λ (s : List ℕ). map (segment_at style pieces) (range_with_len 0 n) ++ s ∷ []) here
-    ∙ ap (λ (m : ℕ). map (segment_at style pieces) (range_with_len 0 n) ++ segment_at style pieces m ∷ []) (sym zero_more)
-    ∙ sym (map-append (segment_at style pieces) (range_with_len 0 n) ((0 + n) ∷ []))
-    ∙ ap (map (segment_at style pieces)) (sym (range_push 0 n))
+-- ---- lists of bytes by their numbers
+abbrev pub no_piece : Piece
+no_piece = record { layer = 0; first = 0; passes = 0; bytes = record { ref_ptr = (0, 0); now = [] } }
 
-pub segments_end : (b : Block) (pieces : List PieceValue) (n : ℕ) → pieces ≡ b.pieces → n ≡ segment_count b.style.bits b.passes
-    → map (segment_at b.style.bits pieces) (range_with_len 0 n) ≡ own_segments b
+pub put_goes : (style i n : ℕ) (p : Piece) (xs ys : List ℕ) → n ≡ ends_below style p.first → ys ≡ xs ++ (if n == i then p.bytes.now else [])
+    → ys ≡ xs ++ (if ends_below style p.first == i then p.bytes.now else [])
+put_goes style i n p xs ys is step = step ∙ ap (λ (m : ℕ). xs ++ (if m == i then p.bytes.now else [])) is
+
+abbrev rows_of : List (Vec ℕ Global) → List (List ℕ)
+rows_of vecs = map (λ (v : Vec ℕ Global). v.items) vecs
+
+pub rows_begin : (i : ℕ) → bytes_at [] i ≡ []
+rows_begin i = refl
+
+pub rows_more : (vecs : List (Vec ℕ Global)) (v : Vec ℕ Global) (i : ℕ) → bytes_at (rows_of vecs) i ≡ [] → v.items ≡ [] → bytes_at (rows_of (vecs ++ v ∷ [])) i ≡ []
+rows_more [] v zero none empty = empty
+rows_more [] v (suc i) none empty = refl
+rows_more (w ∷ vecs) v zero none empty = none
+rows_more (w ∷ vecs) v (suc i) none empty = rows_more vecs v i none empty
+
+set_same : (vecs : List (Vec ℕ Global)) (i : ℕ) (v : Vec ℕ Global) → i < length vecs → bytes_at (rows_of (slice_set vecs i v)) i ≡ v.items
+set_same [] i v lt = absurd (omega arith)
+set_same (w ∷ vecs) zero v lt = refl
+set_same (w ∷ vecs) (suc i) v lt = set_same vecs i v (omega arith)
+
+set_other : (vecs : List (Vec ℕ Global)) (i j : ℕ) (v : Vec ℕ Global) → (i ≡ j → ⊥) → bytes_at (rows_of (slice_set vecs i v)) j ≡ bytes_at (rows_of vecs) j
+set_other [] i j v ne = refl
+set_other (w ∷ vecs) zero zero v ne = absurd (ne refl)
+set_other (w ∷ vecs) zero (suc j) v ne = refl
+set_other (w ∷ vecs) (suc i) zero v ne = refl
+set_other (w ∷ vecs) (suc i) (suc j) v ne = set_other vecs i j v (λ e. ne (ap (λ (n : ℕ). suc n) e))
+
+row_get : (vecs : List (Vec ℕ Global)) (i : ℕ) (w : Vec ℕ Global) → i < length vecs → w ≡ slice_index_or vecs i w → bytes_at (rows_of vecs) i ≡ w.items
+row_get [] i w lt e = absurd (omega arith)
+row_get (x ∷ vecs) zero w lt e = ap (λ (y : Vec ℕ Global). y.items) (sym e)
+row_get (x ∷ vecs) (suc i) w lt e = row_get vecs i w (omega arith) e
+
+other_row : (row bytes : List ℕ) (number i : ℕ) → (number ≡ i → ⊥) → row ≡ row ++ (if number == i then bytes else [])
+other_row row bytes number i ne = sym (append-nil row) ∙ ap (λ (xs : List ℕ). row ++ xs) (sym (cond-false (number == i) bytes [] (ne_eqb number i ne)))
+
+pub put_past : (vecs : List (Vec ℕ Global)) (number i : ℕ) (bytes : List ℕ) → length vecs ≤ number → i < length vecs
+    → bytes_at (rows_of vecs) i ≡ bytes_at (rows_of vecs) i ++ (if number == i then bytes else [])
+put_past vecs number i bytes past inside = other_row (bytes_at (rows_of vecs) i) bytes number i (λ (e : number ≡ i). omega arith)
+
+pub put_there : (vecs : List (Vec ℕ Global)) (number k i : ℕ) (v w : Vec ℕ Global) (bytes : List ℕ) → k ≡ number → k < length vecs → w ≡ slice_index_or vecs k w → v.items ≡ w.items ++ bytes
+    → bytes_at (rows_of (slice_set vecs k v)) i ≡ bytes_at (rows_of vecs) i ++ (if number == i then bytes else [])
+put_there vecs number k i v w bytes is lt at made = elim (cases_eq k i) [
+  | inl e ↦
+      ap (bytes_at (rows_of (slice_set vecs k v))) (sym e) ∙ set_same vecs k v lt ∙ made
+      ∙ ap (λ (xs : List ℕ). xs ++ bytes) (sym (row_get vecs k w lt at) ∙ ap (bytes_at (rows_of vecs)) e)
+      ∙ ap (λ (xs : List ℕ). bytes_at (rows_of vecs) i ++ xs) (sym (cond-true (number == i) bytes [] (eq-eqb number i (sym is ∙ e))))
+  | inr ne ↦ set_other vecs k i v ne ∙ other_row (bytes_at (rows_of vecs) i) bytes number i (λ (e : number ≡ i). ne (is ∙ e))
+]
+
+-- ---- all segments
+rows_from : (xs : List (List ℕ)) (f : ℕ → List ℕ) (a : ℕ) → ((i : ℕ) → i < length xs → bytes_at xs i ≡ f (a + i)) → xs ≡ map f (range_with_len a (length xs))
+rows_from [] f a each = refl
+rows_from (x ∷ xs) f a each =
+    let first : x ≡ f a = each 0 (omega arith) ∙ ap f (let e : a + 0 ≡ a = omega arith in e) in
+    let rest : xs ≡ map f (range_with_len (a + 1) (length xs)) =
+    rows_from xs f (a + 1) (λ i lt. each (suc i) (omega arith) ∙ ap f (let e : a + suc i ≡ a + 1 + i = omega arith in e)) in
+    ap (λ (y : List ℕ). y ∷ xs) first ∙ ap (λ (ys : List (List ℕ)). f a ∷ ys) rest
+
+pub rows_are : (b : Block) (vecs : List (Vec ℕ Global)) (pieces : List PieceValue) → pieces ≡ b.pieces → length vecs ≡ segment_count b.style.bits b.passes
+    → ((i : ℕ) → i < length vecs → bytes_at (rows_of vecs) i ≡ segment_at b.style.bits pieces i) → rows_of vecs ≡ own_segments b
 unfolding segments_of
-segments_end b pieces n own all = rw (own, all) refl
+rows_are b vecs pieces own long each =
+    let all : length (rows_of vecs) ≡ length vecs = length-map vecs (λ (v : Vec ℕ Global). v.items) in
+    let is : rows_of vecs ≡ map (segment_at b.style.bits pieces) (range_with_len 0 (length (rows_of vecs))) =
+    rows_from (rows_of vecs) (segment_at b.style.bits pieces) 0 (λ i lt. each i (omega arith) ∙ ap (segment_at b.style.bits pieces) (let e : i ≡ 0 + i = omega arith in e)) in
+    is ∙ ap (λ (n : ℕ). map (segment_at b.style.bits pieces) (range_with_len 0 n)) (all ∙ long)
+    ∙ ap (λ (ps : List PieceValue). map (segment_at b.style.bits ps) (range_with_len 0 (segment_count b.style.bits b.passes))) own
 
 -- none is longer than its block
 segment_fits : (style number : ℕ) (ps : List PieceValue) → length (segment_at style ps number) ≤ bytes_in ps

@@ -29,7 +29,7 @@ use Rattle.jx_same.proofs.FindLemmas.{behind, joined_all, one_none}
 use Rattle.jx_same.proofs.HeaderLemmas.{self_none}
 
 -- ---- the bands of a resolution
-bands_all : (p : Spot → Bool) (f : Band → List Spot) (r : ℕ) → ((b : Band) → HasBand r b → find p (f b) ≡ None) → find p (flat_map f (bands_at r)) ≡ None
+pub bands_all : (p : Spot → Bool) (f : Band → List Spot) (r : ℕ) → ((b : Band) → HasBand r b → find p (f b) ≡ None) → find p (flat_map f (bands_at r)) ≡ None
 bands_all p f ℕ.zero each = behind p (f LL) [] None (each LL refl) refl
 bands_all p f (ℕ.suc r) each =
     ap (λ (bands : List Band). find p (flat_map f bands)) (bands_high (ℕ.suc r) (omega arith))
@@ -47,12 +47,12 @@ module _ (s t : Stream) (x y : List Block) where
       (size_found s t x y c ∙ ap (λ (z : Siz). option_map (spot_of_component 0 c) (find (unlike_size (size_in s.siz c) (size_in z c)) size_fields)) (sym e)
       ∙ sym (size_found s s x x c) ∙ self_none (meaning_of s x) (size_items c))))
 
-  none_coding : (i c : ℕ) → component_of (params_of s i c) ≡ component_of (params_of t i c) → find (differs (meaning_of s x) (meaning_of t y)) (coding_items i c) ≡ None
+  pub none_coding : (i c : ℕ) → component_of (params_of s i c) ≡ component_of (params_of t i c) → find (differs (meaning_of s x) (meaning_of t y)) (coding_items i c) ≡ None
   none_coding i c e =
       coding_found s t x y i c ∙ ap (λ (z : Component). option_map (spot_of_component i c) (find (unlike_coding (component_of (params_of s i c)) z) coding_fields)) (sym e)
       ∙ sym (coding_found s s x x i c) ∙ self_none (meaning_of s x) (coding_items i c)
 
-  none_step : (i c r : ℕ) (b : Band) → step_of s i c r b ≡ step_of t i c r b → find (differs (meaning_of s x) (meaning_of t y)) (step_items i c r b) ≡ None
+  pub none_step : (i c r : ℕ) (b : Band) → step_of s i c r b ≡ step_of t i c r b → find (differs (meaning_of s x) (meaning_of t y)) (step_items i c r b) ≡ None
   none_step i c r b e =
       step_found s t x y i c r b ∙ ap (λ (z : ℕ × ℕ). option_map (spot_of_band i c r b) (find (unlike_step (step_of s i c r b) z) step_fields)) (sym e)
       ∙ sym (step_found s s x x i c r b) ∙ self_none (meaning_of s x) (step_items i c r b)

@@ -2,3 +2,5 @@ pub mod Items
 pub mod Within
 -- Inner: no other crate cites these.
 pub mod Sides
+pub mod Lists
+pub mod Shared

@@ -1,11 +1,11 @@
 -- One of the two codestreams that are compared, at one of its tiles.
-use Rattle.std.specs.Prelude.{ℕ, ◌<◌, ◌≡◌, ◌==◌, Bool, false, ◌&&◌, not, List, length, Some}
+use Rattle.std.specs.Prelude.{ℕ, ◌<◌, ◌≡◌, ◌==◌, Bool, false, ◌&&◌, not, List, length, Option, Some, slice_get}
 use Rattle.jx_base.specs.declared.names.Rect.{Rect}
 use Rattle.jx_base.specs.declared.names.Span.{Span}
 use Rattle.jx_base.specs.declared.pieces.Block.{Block}
 use Rattle.jx_base.specs.Places.{InRect}
 use Rattle.jx_base.specs.Sound.{IsSound}
-use Rattle.jx_geom.specs.Geometry.{Geometry, HasResolution}
+use Rattle.jx_geom.specs.Geometry.{Geometry, HasResolution, LacksPlace, rect_of_tile}
 use Rattle.jx_geom.specs.Ranges.{HasBand}
 use Rattle.jx_codestream.specs.declared.Stream.{Stream}
 use Rattle.jx_codestream.specs.First.{tile_number}
@@ -19,7 +19,7 @@ use Rattle.jx_same.specs.declared.answer.Field.{Field}
 use Rattle.jx_same.specs.declared.answer.Field.TheVariants as field
 use Rattle.jx_same.specs.declared.input.Input.{Input}
 use Rattle.jx_same.specs.declared.side.BandName.{BandName}
-use Rattle.jx_same.specs.Items.{same_canvas, same_sampling}
+use Rattle.jx_same.specs.Items.{coef_or, same_canvas, same_coef, same_sampling}
 
 -- a codestream that was read
 abbrev pub IsInput : Input → Type 0
@@ -48,6 +48,10 @@ pub record HasBandOf (s : SideValue) (n : BandName) : Type 0 where
   pub resolution : HasResolution (geometry_at s) n.comp n.res
   pub band : HasBand n.res n.band
 
+-- a component has no place in the tile
+abbrev pub IsEmptyIn : SideValue → ℕ → Type 0
+IsEmptyIn s c = LacksPlace (rect_of_tile (geometry_at s)) (geometry_at s).shapes c
+
 -- both are at one tile of one canvas
 pub record AreBeside (a b : SideValue) : Type 0 where
   pub tile : a.tile ≡ b.tile
@@ -66,6 +70,14 @@ pub record Covers (s : SideValue) (n : BandName) (b : Block) : Type 0 where
   pub sound : IsSound b
   pub band : b.name.band ≡ n.band
   pub samples : (x y : ℕ) → InRect b.rect x y → sample_at s.blocks (place_in s n x y) ≡ Some (sample_in (place_in s n x y) b)
+
+-- each block that stands on a shelf has the coefficients of its places in a band
+abbrev pub AreOnShelf : SideValue → BandName → List (Option Block) → Type 0
+AreOnShelf s n slots = (i : ℕ) (b : Block) → slice_get slots i ≡ Some (Some b) → Covers s n b
+
+-- whether a block has the coefficient of a place that a codestream has
+abbrev pub agrees_at : SideValue → BandName → Block → ℕ → ℕ → Bool
+agrees_at s n b x y = same_coef (sample_in (place_in s n x y) b) (coef_or (sample_at s.blocks (place_in s n x y)))
 
 -- ---- blocks that need no decoding
 -- two blocks have the same places, planes and passes in one style

@@ -10,6 +10,7 @@ ghost use Rattle.jx_same.specs.Sides.{AreAligned, AreBeside, HasBandOf, geometry
 use crate::Spot;
 use crate::blocks::compare_block;
 use crate::headers::{spot_of_band, spot_of_component, unlike_coding, unlike_step};
+use crate::shelf::Shelf;
 use crate::side::{BandName, Side};
 use jx_base::{Band, NoMemory};
 use std::alloc::Global;
@@ -26,8 +27,9 @@ fn compare_blocks(
     ensures { IfOk result (λ found. found ≡ find (differs (meaning_at a.now) (meaning_at b.now))
         (joined (block_items (geometry_at a.now) name.comp name.res name.band) 0 (size_of (blocks_in (geometry_at a.now) name.comp name.res name.band)))) }
 {
+    let mut shelf = Shelf::new(alloc, b.columns(name, a));
     for index in 0..a.count(name) {
-        if let Some(spot) = compare_block(alloc, a, b, name, index)? {
+        if let Some(spot) = compare_block(alloc, a, b, &mut shelf, name, index)? {
             return Ok(Some(spot));
         }
     }

@@ -8,6 +8,7 @@ mod decoded;
 mod headers;
 mod input;
 mod segments;
+mod shelf;
 mod side;
 mod tiles;
 mod whole;

@@ -1,11 +1,11 @@
 //! The codeword segments of a code-block, whatever pieces they came in (ITU-T T.800, B.10.7 and D.4).
 
-ghost use Rattle.std.specs.Prelude.{◌≡◌, ◌≤◌, ◌++◌, [], IfOk, IsTrue, OnOk, if◌then◌else◌, ◌==◌, length, map};
-ghost use Rattle.jx_base.specs.Pieces.{value_of};
+ghost use Rattle.std.specs.Prelude.{◌≡◌, ◌≤◌, ◌<◌, ◌++◌, ℕ, [], IfOk, IsTrue, OnOk, if◌then◌else◌, ◌==◌, length, map};
 ghost use Rattle.jx_codeblock.specs.Recoding.{own_segments};
-ghost use Rattle.jx_codeblock.specs.Segments.{ends_below, segment_at, segment_count};
+ghost use Rattle.jx_codeblock.specs.Segments.{ends_below, segment_count};
+ghost use Rattle.jx_same.specs.Lists.{bytes_at};
 
-use jx_base::{Block, NoMemory, Piece, Style, ends_segment};
+use jx_base::{Block, NoMemory, Style, ends_segment};
 use jx_tier1::Segments;
 use std::alloc::Global;
 
@@ -35,47 +35,62 @@ fn segment_count(style: Style, passes: u16) -> u32
     u32::from(ends_below(style, passes - 1)) + 1
 }
 
-/// Appends a piece to a segment, where it is one of its pieces.
-fn put_piece(
-    segment: &mut Vec<u8>,
-    style: Style,
-    number: u32,
-    piece: Piece<'_>,
-) -> Result<(), NoMemory>
-    ensures { OnOk result (segment.new.items ≡ segment.old.items ++ (if ends_below style.bits piece.entry.first == number then piece.entry.bytes.now else [])) }
+/// The same of other passes than those of which it is known: what lies between them is looked at, where they are more.
+#[tactic(auto, using(crate::proofs::SegmentLemmas::ends_next, crate::proofs::SegmentLemmas::ends_few))]
+fn ends_from(style: Style, passed: u16, known: u16, passes: u16) -> u16
+    requires { known ≡ ends_below style.bits passed }
+    ensures { result ≡ ends_below style.bits passes }
 {
-    if u32::from(ends_below(style, piece.first)) == number {
-        segment.extend_from_slice(piece.bytes)?;
+    if passes < passed {
+        return ends_below(style, passes);
     }
+    let mut count = known;
+    for pass in passed..passes {
+        if ends_segment(style, pass) {
+            count += 1;
+        }
+    }
+    count
+}
+
+/// So many lists without bytes.
+#[tactic(auto, using(crate::proofs::SegmentLemmas::rows_begin, crate::proofs::SegmentLemmas::rows_more))]
+fn empty_lists(alloc: Global, count: u32) -> Result<Vec<Vec<u8>>, NoMemory>
+    ensures long { IfOk result (λ lists. length lists.items ≡ count) }
+    ensures none { IfOk result (λ lists. (i : ℕ) → bytes_at (map (λ l. l.items) lists.items) i ≡ []) }
+{
+    let mut lists = Vec::new(alloc);
+    for _number in 0..count {
+        lists.push(Vec::new(alloc))?;
+    }
+    Ok(lists)
+}
+
+/// Appends bytes to the list of a number, where there is one.
+fn put_bytes(lists: &mut Vec<Vec<u8>>, number: u16, bytes: &[u8]) -> Result<(), NoMemory>
+    ensures long { OnOk result (length lists.new.items ≡ length lists.old.items) }
+    ensures each { OnOk result ((i : ℕ) → i < length lists.old.items → bytes_at (map (λ l. l.items) lists.new.items) i
+        ≡ bytes_at (map (λ l. l.items) lists.old.items) i ++ (if number == i then bytes.now else [])) }
+{
+    if usize::from(number) >= lists.len() {
+        return Ok(());
+    }
+    lists[usize::from(number)].extend_from_slice(bytes)?;
     Ok(())
 }
 
-/// A segment of these pieces.
-#[tactic(auto, using(crate::proofs::SegmentLemmas::segment_goes, crate::proofs::SegmentLemmas::segment_ends))]
-fn segment_of(
-    alloc: Global,
-    style: Style,
-    pieces: &[Piece<'_>],
-    number: u32,
-) -> Result<Vec<u8>, NoMemory>
-    ensures { IfOk result (λ bytes. bytes.items ≡ segment_at style.bits (map value_of pieces.now) number) }
-{
-    let mut bytes = Vec::new(alloc);
-    for piece in pieces {
-        put_piece(&mut bytes, style, number, *piece)?;
-    }
-    Ok(bytes)
-}
-
-/// The bytes of each segment of a block.
-#[tactic(auto, using(crate::proofs::SegmentLemmas::segments_go, crate::proofs::SegmentLemmas::segments_end))]
+/// The bytes of each segment of a block. Each piece is looked at once, and so are the passes between one and the next.
 pub(crate) fn segments_of(alloc: Global, block: &Block<'_>) -> Result<Vec<Vec<u8>>, NoMemory>
     ensures { IfOk result (λ lists. map (λ l. l.items) lists.items ≡ own_segments block.now) }
 {
     let pieces = block.pieces.as_slice();
-    let mut lists = Vec::new(alloc);
-    for number in 0..segment_count(block.style, block.passes) {
-        lists.push(segment_of(alloc, block.style, pieces, number)?)?;
+    let mut lists = empty_lists(alloc, segment_count(block.style, block.passes))?;
+    let mut passed = 0;
+    let mut number = 0;
+    for piece in pieces {
+        number = ends_from(block.style, passed, number, piece.first);
+        passed = piece.first;
+        put_bytes(&mut lists, number, piece.bytes)?;
     }
     Ok(lists)
 }

@@ -1,6 +1,6 @@
 //! One of two codestreams at one tile: what its headers say there, and its code-blocks by their places.
 
-ghost use Rattle.std.specs.Prelude.{◌≡◌, ◌≤◌, ◌<◌, ◌+◌, ◌*◌, ◌/◌, ◌^◌, IfOk, length};
+ghost use Rattle.std.specs.Prelude.{◌≡◌, ◌≤◌, ◌<◌, ◌+◌, ◌-◌, ◌*◌, ◌/◌, ◌^◌, ◌↔◌, IfOk, IsTrue, length};
 ghost use Rattle.jx_base.specs.Places.{InRect, number_at, size_of};
 ghost use Rattle.jx_geom.specs.Counts.{tile_blocks};
 ghost use Rattle.jx_geom.specs.Geometry.{HasResolution, ShapesInRange, band_in, blocks_in, rect_of_tile, shape_of};
@@ -12,12 +12,12 @@ ghost use Rattle.jx_codestream.specs.Params.{params_of, step_of};
 ghost use Rattle.jx_codestream.specs.Shapes.{shapes_of};
 ghost use Rattle.jx_tile.specs.Frame.{AreOfTile};
 ghost use Rattle.jx_same.specs.Items.{rect_in};
-ghost use Rattle.jx_same.specs.Sides.{Covers, HasBandOf, IsInput, IsSide, geometry_at};
+ghost use Rattle.jx_same.specs.Sides.{Covers, HasBandOf, IsEmptyIn, IsInput, IsSide, geometry_at};
 
 use crate::input::Input;
 use jx_base::{Band, Block, BlockName, NoMemory, Rect};
 use jx_codestream::{MainView, Params, Stream, TileView};
-use jx_geom::{CompShape, TileGeom, count_in};
+use jx_geom::{CompShape, TileGeom, count_known, is_empty_after};
 use jx_tile::TileFrame;
 use std::alloc::Global;
 use std::marker::Model;
@@ -28,6 +28,13 @@ pub(crate) struct BandName {
     pub(crate) comp: u16,
     pub(crate) res: u8,
     pub(crate) band: Band,
+}
+
+/// Which code-blocks of a band stand beside one of another codestream: `count` columns of them, each of `2^across` columns of places.
+#[derive(Clone, Copy, Debug)]
+pub(crate) struct Columns {
+    pub(crate) across: u32,
+    pub(crate) count: u32,
 }
 
 /// A codestream at one of its tiles.
@@ -53,7 +60,7 @@ impl<'a> Model for Side<'a> {
         × (s.first ≡ blocks_below (canvas_of s.frame.stream.siz) (shapes_of s.frame.stream) s.frame.number) };
 }
 
-/// How many code-blocks a tile of these places has.
+/// How many code-blocks a tile of these places has. A component without a place takes a few operations.
 #[tactic(auto, using(jx_geom::proofs::TableLemmas::blocks_more))]
 fn count_tile(places: Rect, shapes: &[CompShape]) -> u128
     requires few { length shapes.now ≤ 2 ^ 14 }
@@ -62,8 +69,10 @@ fn count_tile(places: Rect, shapes: &[CompShape]) -> u128
     ensures bound { result < 2 ^ 87 }
 {
     let mut blocks = 0;
+    let mut none = false;
     for comp in 0..shapes.len() {
-        blocks += count_in(places, &shapes[comp]).0;
+        none = is_empty_after(places, shapes, comp, none);
+        blocks += count_known(places, &shapes[comp], none).0;
     }
     blocks
 }
@@ -170,6 +179,16 @@ impl<'a> Side<'a> {
         view.comps()
     }
 
+    /// Whether a component has no place in the tile, where `last` says it of the component before it.
+    pub(crate) fn is_empty_after(&self, comp: u16, last: bool) -> bool
+        requires comp { comp < length self.now.stream.siz.comps }
+        requires last { 0 < comp → IsTrue last ↔ IsEmptyIn self.now (comp - 1) }
+        ensures { IsTrue result ↔ IsEmptyIn self.now comp }
+    {
+        let (_, view, geom) = self.frame.parts();
+        is_empty_after(geom.tile(), view.shapes(), usize::from(comp), last)
+    }
+
     /// How many code-blocks the codestream has up to the end of the tile.
     pub(crate) fn behind(&self) -> usize
         ensures { result ≡ blocks_below (canvas_of self.now.stream.siz) (shapes_of self.now.stream) (self.now.tile + 1) }
@@ -212,6 +231,30 @@ impl<'a> Side<'a> {
     {
         let (_, _, geom) = self.frame.parts();
         geom.block_grid(name.comp, name.res, name.band).count()
+    }
+
+    /// The exponent of the width of a band's code-blocks.
+    fn across(&self, name: BandName) -> u32
+        requires { HasBandOf self.now name }
+        ensures { result < 16 }
+    {
+        let (stream, view, geom) = self.frame.parts();
+        let (across, _) = block_exponents(shape_at(stream, view, geom, name.comp), name.res);
+        across
+    }
+
+    /// Which code-blocks of a band stand beside one of another codestream that has the band.
+    pub(crate) fn columns(&self, name: BandName, other: &Side<'_>) -> Columns
+        requires own { HasBandOf self.now name }
+        requires other { HasBandOf other.now name }
+        ensures across { result.across < 32 }
+        ensures some { 0 < result.count }
+    {
+        let across = self.across(name);
+        Columns {
+            across,
+            count: 1 << other.across(name).saturating_sub(across),
+        }
     }
 
     /// A code-block of a band, by its index there.

@@ -1,10 +1,11 @@
 //! The tiles of two codestreams one after another.
 
-ghost use Rattle.std.specs.Prelude.{◌≡◌, find, IfOk};
+ghost use Rattle.std.specs.Prelude.{◌≡◌, ◌<◌, ◌&&◌, ◌||◌, find, length, IfOk, IsTrue, None};
 ghost use Rattle.jx_base.specs.Joined.{joined};
 ghost use Rattle.jx_codestream.specs.First.{tile_number};
-ghost use Rattle.jx_same.specs.Items.{differs, tile_items};
-ghost use Rattle.jx_same.specs.Sides.{AreBeside, IsInput, meaning_at, meaning_in};
+ghost use Rattle.jx_same.specs.Items.{component_items, differs, tile_items};
+ghost use Rattle.jx_same.specs.Shared.{AreBareAt, AreSameHeaders, gives_some};
+ghost use Rattle.jx_same.specs.Sides.{AreBeside, IsInput, geometry_at, meaning_at, meaning_in};
 
 use crate::Spot;
 use crate::bands::compare_component;
@@ -12,23 +13,105 @@ use crate::input::Input;
 use crate::side::Side;
 use jx_base::NoMemory;
 use jx_codestream::MainView;
+use jx_marker::Segment;
 use std::alloc::Global;
 
-/// The first value of a tile that differs.
-#[tactic(auto, unfolding(crate::specs::Items::tile_items))]
-fn compare_tile(alloc: Global, a: &Side<'_>, b: &Side<'_>) -> Result<Option<Spot>, NoMemory>
+/// Whether a segment of a tile's header says how components are transformed or quantized (T.800, A.6).
+fn gives_some(header: &[Segment]) -> bool
+    ensures { result ≡ gives_some header.now }
+{
+    for segment in header {
+        if matches!(
+            segment,
+            Segment::Cod(_)
+                | Segment::Coc { .. }
+                | Segment::Qcd(_)
+                | Segment::Qcc { .. }
+                | Segment::Rgn { .. }
+        ) {
+            return true;
+        }
+    }
+    false
+}
+
+/// Whether the headers of a tile say nothing of its components, in either codestream.
+fn are_bare(a: &Input<'_>, b: &Input<'_>, tile: u16) -> bool
+    ensures { IsTrue result → AreBareAt a.now.stream.now b.now.stream.now tile }
+{
+    if gives_some(a.stream.header(tile)) {
+        return false;
+    }
+    if gives_some(b.stream.header(tile)) {
+        return false;
+    }
+    true
+}
+
+/// Whether both hold.
+fn both(a: bool, b: bool) -> bool
+    ensures { result ≡ (a && b) }
+{
+    if a {
+        return b;
+    }
+    false
+}
+
+/// Whether one of them holds.
+fn either(a: bool, b: bool) -> bool
+    ensures { result ≡ (a || b) }
+{
+    if a {
+        return true;
+    }
+    b
+}
+
+/// The first value of a tile-component that differs; none is looked for where it is known that there is none.
+fn compare_unless(
+    alloc: Global,
+    a: &Side<'_>,
+    b: &Side<'_>,
+    comp: u16,
+    known: bool,
+) -> Result<Option<Spot>, NoMemory>
     requires beside { AreBeside a.now b.now }
+    requires comp { comp < length a.now.stream.siz.comps }
+    requires known { IsTrue known → find (differs (meaning_at a.now) (meaning_at b.now)) (component_items (geometry_at a.now) comp) ≡ None }
+    ensures { IfOk result (λ found. found ≡ find (differs (meaning_at a.now) (meaning_at b.now)) (component_items (geometry_at a.now) comp)) }
+{
+    if known {
+        return Ok(None);
+    }
+    compare_component(alloc, a, b, comp)
+}
+
+/// The first value of a tile that differs. Where it is known that both headers say the same of all components, those without a place
+/// aren't looked at.
+#[tactic(auto, unfolding(crate::specs::Items::tile_items))]
+fn compare_tile(
+    alloc: Global,
+    a: &Side<'_>,
+    b: &Side<'_>,
+    known: bool,
+) -> Result<Option<Spot>, NoMemory>
+    requires beside { AreBeside a.now b.now }
+    requires known { IsTrue known → AreSameHeaders a.now.stream b.now.stream a.now.tile }
     ensures { IfOk result (λ found. found ≡ find (differs (meaning_at a.now) (meaning_at b.now)) (tile_items a.now.stream a.now.tile)) }
 {
+    let mut empty = false;
     for comp in 0..a.comps() {
-        if let Some(spot) = compare_component(alloc, a, b, comp)? {
+        empty = a.is_empty_after(comp, empty);
+        if let Some(spot) = compare_unless(alloc, a, b, comp, both(known, empty))? {
             return Ok(Some(spot));
         }
     }
     Ok(None)
 }
 
-/// The first value of all tiles that differs, with the views of both main headers.
+/// The first value of all tiles that differs, with the views of both main headers. What these say of tiles whose headers say nothing
+/// is compared once.
 fn compare_all<'a>(
     alloc: Global,
     a: Input<'a>,
@@ -45,12 +128,15 @@ fn compare_all<'a>(
 {
     let mut first_a = 0;
     let mut first_b = 0;
+    let mut known = false;
     for tile in 0..a.stream.tile_count() {
         let side_a = Side::new(alloc, a, main_a, tile, first_a)?;
         let side_b = Side::new(alloc, b, main_b, tile, first_b)?;
-        if let Some(spot) = compare_tile(alloc, &side_a, &side_b)? {
+        let bare = are_bare(&a, &b, tile);
+        if let Some(spot) = compare_tile(alloc, &side_a, &side_b, both(known, bare))? {
             return Ok(Some(spot));
         }
+        known = either(known, bare);
         first_a = side_a.behind();
         first_b = side_b.behind();
     }

@@ -49,6 +49,7 @@ pub fn compare(
     requires a { MayBePlanned sa.now ba.now }
     requires b { MayBePlanned sb.now bb.now }
     ensures first { IfOk result (λ answer. answer ≡ answer_of sa.now (meaning_of sa.now ba.now) (meaning_of sb.now bb.now)) }
+    ensures one { IfOk result (λ answer. answer ≡ told.Same → MeanOne (meaning_of sa.now ba.now) (meaning_of sb.now bb.now)) }
     ensures within { IfOk result (λ answer. MeanOne (meaning_of sa.now ba.now) (meaning_of sb.now bb.now) → answer ≡ told.Same) }
     ensures same { IfOk result (λ answer. meaning_of sa.now ba.now ≡ meaning_of sb.now bb.now → answer ≡ told.Same) }
 {

@@ -22,7 +22,13 @@ const TWO: &str =
 const WIDE: &str =
     "FF4F FF51 0029 0000 00000008 00000008 00000000 00000000 00000008 00000008 00000000 00000000";
 
+// Two components in two tiles, the second with every other column alone: it has no place in the second tile.
+const THIN: &str =
+    "FF4F FF51 002C 0000 00000002 00000001 00000000 00000000 00000001 00000001 00000000 00000000";
+
 const COMP: &str = "0001 07 01 01";
+
+const COMPS: &str = "0002 07 01 01 07 02 01";
 // Code-blocks of 64 by 64, of 8 by 8 and of 4 by 4; each pass terminated; one level; the 9-7 wavelet.
 const PLAIN: &str = "FF52 000C 00 00 0001 00 00 04 04 00 01";
 
@@ -66,6 +72,20 @@ const ZERO: &str = "FF90 000A 0000 00000011 00 01 FF93 C0 21 60 FFD9";
 const PASSES: &str = "FF90 000A 0000 00000012 00 01 FF93 C0 74 10 01 FFD9";
 
 const SEGMENTS: &str = "FF90 000A 0000 00000019 00 01 FF93 C0 74 52 40 03 FF7F FF7F FF7F FFD9";
+// The third of these segments is another one.
+const OTHER: &str = "FF90 000A 0000 00000019 00 01 FF93 C0 74 52 40 03 FF7F 0000 FF7F FFD9";
+// One code-block with a pass without bytes, which decodes to 0; four, and four of which the last has no pass.
+const WHOLE: &str = "FF90 000A 0000 00000010 00 01 FF93 C0 20 FFD9";
+
+const QUARTERS: &str = "FF90 000A 0000 00000013 00 01 FF93 E0 18 30 60 C0 FFD9";
+
+const THREE: &str = "FF90 000A 0000 00000013 00 01 FF93 E0 18 30 60 00 FFD9";
+// Two tiles without a pass; the same with a shift of the second component, which is empty there.
+const BARE: &str =
+    "FF90 000A 0000 00000010 00 01 FF93 00 00 FF90 000A 0001 0000000F 00 01 FF93 00 FFD9";
+
+const RAISED: &str =
+    "FF90 000A 0000 00000010 00 01 FF93 00 00 FF90 000A 0001 00000016 00 01 FF5E 0005 01 00 01 FF93 00 FFD9";
 // Two tiles: +1 and +1, +1 and -1.
 const BOTH: &str =
     "FF90 000A 0000 00000011 00 01 FF93 C0 21 03 FF90 000A 0001 00000011 00 01 FF93 C0 21 03 FFD9";
@@ -79,7 +99,7 @@ type Parts = [&'static str; 5];
 /// What is told of two codestreams: nothing where they are the same.
 type Row = (Parts, Parts, Option<Field>);
 
-static ROWS: [Row; 19] = [
+static ROWS: [Row; 25] = [
     (
         [ONE, COMP, PLAIN, STEP, EMPTY],
         [ONE, COMP, PLAIN, STEP, EMPTY],
@@ -119,6 +139,36 @@ static ROWS: [Row; 19] = [
         [ONE, COMP, PLAIN, STEP, PLUS],
         [ONE, COMP, PLAIN, STEP, PASSES],
         Some(Field::Coef),
+    ),
+    (
+        [ONE, COMP, ENDED, STEP, SEGMENTS],
+        [ONE, COMP, ENDED, STEP, SEGMENTS],
+        None,
+    ),
+    (
+        [ONE, COMP, ENDED, STEP, SEGMENTS],
+        [ONE, COMP, ENDED, STEP, OTHER],
+        Some(Field::Coef),
+    ),
+    (
+        [WIDE, COMP, EIGHT, STEP, WHOLE],
+        [WIDE, COMP, FOUR, STEP, QUARTERS],
+        None,
+    ),
+    (
+        [WIDE, COMP, FOUR, STEP, QUARTERS],
+        [WIDE, COMP, EIGHT, STEP, WHOLE],
+        None,
+    ),
+    (
+        [THIN, COMPS, PLAIN, STEP, BARE],
+        [THIN, COMPS, PLAIN, STEP, BARE],
+        None,
+    ),
+    (
+        [THIN, COMPS, PLAIN, STEP, RAISED],
+        [THIN, COMPS, PLAIN, STEP, RAISED],
+        None,
     ),
     (
         [WIDE, COMP, EIGHT, STEP, EMPTY],
@@ -237,23 +287,48 @@ fn first_values_that_differ(rt: HostRuntime) -> Result<(), Fail> {
     Ok(())
 }
 
-// The coefficient of the second tile stands in the second column of its band.
-#[test]
-fn a_place_in_the_band(rt: HostRuntime) -> Result<(), Fail> {
-    let want = Answer::Differs(Spot {
-        field: Field::Coef,
-        tile: 1,
-        comp: 0,
+// A spot of the lowest band.
+fn spot(field: Field, tile: u16, comp: u16, x: u32, y: u32) -> Spot {
+    Spot {
+        field,
+        tile,
+        comp,
         res: 0,
         band: Band::LL,
-        x: 1,
-        y: 0,
-    });
-    let found = answer(
-        rt.alloc(),
-        &[TWO, COMP, PLAIN, STEP, BOTH],
-        &[TWO, COMP, PLAIN, STEP, UNLIKE],
-    );
-    equal_at(&rt, &"tiles", found, Some(want));
+        x,
+        y,
+    }
+}
+
+// The coefficient of the second tile stands in the second column of its band. Of four code-blocks the last one differs from a whole
+// one. A tile's header says something of a component without a place there.
+#[test]
+fn other_spots(rt: HostRuntime) -> Result<(), Fail> {
+    let rows = [
+        (
+            [TWO, COMP, PLAIN, STEP, BOTH],
+            [TWO, COMP, PLAIN, STEP, UNLIKE],
+            spot(Field::Coef, 1, 0, 1, 0),
+        ),
+        (
+            [WIDE, COMP, EIGHT, STEP, WHOLE],
+            [WIDE, COMP, FOUR, STEP, THREE],
+            spot(Field::Coef, 0, 0, 4, 4),
+        ),
+        (
+            [WIDE, COMP, FOUR, STEP, THREE],
+            [WIDE, COMP, EIGHT, STEP, WHOLE],
+            spot(Field::Coef, 0, 0, 4, 4),
+        ),
+        (
+            [THIN, COMPS, PLAIN, STEP, BARE],
+            [THIN, COMPS, PLAIN, STEP, RAISED],
+            spot(Field::Shift, 1, 1, 0, 0),
+        ),
+    ];
+    for (number, (a, b, want)) in rows.iter().enumerate() {
+        let found = answer(rt.alloc(), a, b);
+        equal_at(&rt, &number, found, Some(Answer::Differs(*want)));
+    }
     Ok(())
 }

@@ -3,13 +3,20 @@ use Rattle.jx_base.specs.Places.{size_of}
 use Rattle.jx_geom.specs.Geometry.{blocks_in}
 use Rattle.jx_same.specs.Items.{block_items, differs}
 use Rattle.jx_same.specs.Sides.{geometry_at, meaning_at}
+use Rattle.jx_same.proofs.BlockLemmas.{aligned_has, none_on_shelf}
 use Rattle.jx_same.proofs.FindLemmas.{joined_begins, joined_goes, joined_stops, nothing}
 use Rattle.jx_same.proofs.bands.compare_blocks.Goals as goal
+
+pub columns-requires-clause-own : goal.columns-requires-clause-own
+columns-requires-clause-own c = aligned_has c.args.a.now c.args.b.now c.args.name c.requires.aligned c.requires.band
 
 pub loop-index-init : goal.loop-index-init
 loop-index-init c =
     let n = c.args.name in
-    joined_begins (differs (meaning_at c.args.a.now) (meaning_at c.args.b.now)) (block_items (geometry_at c.args.a.now) n.comp n.res n.band)
+    record {
+      shelf = none_on_shelf c.args.b.now n c.new-shelf.result c.new-shelf.ensures;
+      none = joined_begins (differs (meaning_at c.args.a.now) (meaning_at c.args.b.now)) (block_items (geometry_at c.args.a.now) n.comp n.res n.band);
+    }
 
 pub returns-in-Some : goal.returns-in-Some
 returns-in-Some c =
@@ -17,10 +24,13 @@ returns-in-Some c =
     let all = size_of (blocks_in (geometry_at c.args.a.now) n.comp n.res n.band) in
     let below : c.loop-index.index < all = omega (arith, c.loop-index-test.true, c.count-index-end.ensures) in
     sym (joined_stops (differs (meaning_at c.args.a.now) (meaning_at c.args.b.now)) (block_items (geometry_at c.args.a.now) n.comp n.res n.band) c.loop-index.index all c.in-Some.spot
-    c.loop-index.invariant (sym c.in_ok-spot.ensures ∙ c.in-Some.is) below)
+    c.loop-index.invariant.none (sym c.in_ok-spot.ensures.first ∙ c.in-Some.is) below)
 
 pub loop-index-preserved : goal.loop-index-preserved
 loop-index-preserved c =
     let n = c.args.name in
-    joined_goes (differs (meaning_at c.args.a.now) (meaning_at c.args.b.now)) (block_items (geometry_at c.args.a.now) n.comp n.res n.band) c.loop-index.index c.loop-index.invariant
-    (sym c.in_ok-spot.ensures ∙ nothing c.in_ok-spot.field-0 (λ x is. c.in_default.not-Some x is))
+    record {
+      shelf = c.in_ok-spot.ensures.shelf;
+      none = joined_goes (differs (meaning_at c.args.a.now) (meaning_at c.args.b.now)) (block_items (geometry_at c.args.a.now) n.comp n.res n.band) c.loop-index.index c.loop-index.invariant.none
+          (sym c.in_ok-spot.ensures.first ∙ nothing c.in_ok-spot.field-0 (λ x is. c.in_default.not-Some x is));
+    }

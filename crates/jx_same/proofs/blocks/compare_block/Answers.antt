@@ -16,8 +16,8 @@ block_over-twin-requires-clause-place c =
     place_over c.args.a.now c.args.b.now c.args.name c.requires.aligned c.requires.band block.rect.x.low block.rect.y.low
     (place_in_band c.args.a.now c.args.name c.args.index block.rect c.block-block.ensures.rect block.rect.x.low block.rect.y.low (first_place block c.block-block.ensures.covers.sound))
 
-pub returns-then-branch : goal.returns-then-branch
-returns-then-branch c =
+pub returns-then-branch-clause-first : goal.returns-then-branch-clause-first
+returns-then-branch-clause-first c =
     let a = c.args.a.now in
     let b = c.args.b.now in
     let n = c.args.name in

@@ -1,10 +1,13 @@
 use Rattle.std.proofs.Common.{◌≡◌, ◌∙◌, ◌<◌, ℕ, ap, refl, subst, sym, arith}
+use Rattle.std.proofs.lemmas.Bool.{and_parts}
 use Rattle.jx_marker.specs.declared.Siz.{Siz}
 use Rattle.jx_codestream.specs.First.{tile_number}
 use Rattle.jx_same.specs.Items.{differs, tile_items}
+use Rattle.jx_same.specs.Shared.{AreSameMain}
 use Rattle.jx_same.specs.Sides.{meaning_in}
 use Rattle.jx_same.proofs.FindLemmas.{joined_begins, joined_goes, joined_stops, nothing}
 use Rattle.jx_same.proofs.HeaderLemmas.{siz_back}
+use Rattle.jx_same.proofs.SharedLemmas.{headers_beside, headers_from, headers_none, known_after, main_from}
 use Rattle.jx_same.proofs.TileLemmas.{behind_of, tile_found}
 use Rattle.jx_same.proofs.tiles.compare_all.Goals as goal
 
@@ -12,6 +15,7 @@ pub loop-tile-init : goal.loop-tile-init
 loop-tile-init c = record {
   first_a = refl;
   first_b = refl;
+  known = λ is. absurd (cc);
   none = joined_begins (differs (meaning_in c.args.a) (meaning_in c.args.b)) (tile_items c.args.a.stream.now);
 }
 
@@ -21,6 +25,15 @@ new-requires-in-loop-tile-clause-tile c =
     let tiles : tile_number c.args.a.stream.now.siz ≡ tile_number c.args.b.stream.now.siz = ap (λ (z : Siz). tile_number z) same in
     let below : c.loop-tile.tile < tile_number c.args.a.stream.now.siz = omega (arith, c.loop-tile-test.true, c.tile_count-tile-end.ensures) in
     subst (λ (n : ℕ). c.loop-tile.tile < n) tiles below
+
+pub compare_tile-requires-clause-known : goal.compare_tile-requires-clause-known
+compare_tile-requires-clause-known c = λ is.
+    (let a = c.args.a in
+    let b = c.args.b in
+    let t = c.loop-tile.tile in
+    let parts = and_parts c.loop-tile.known c.are_bare-bare.result (sym c.both.ensures ∙ is) in
+    headers_beside a b c.in_ok-side_a.side_a c.in_ok-side_b.side_b t c.in_ok-side_a.ensures c.in_ok-side_b.ensures
+    (headers_from a.stream.now b.stream.now t (c.are_bare-bare.ensures parts.1) (c.loop-tile.invariant.known parts.0)))
 
 pub returns-in-Some : goal.returns-in-Some
 returns-in-Some c =
@@ -34,9 +47,14 @@ pub loop-tile-preserved : goal.loop-tile-preserved
 loop-tile-preserved c =
     let a = c.args.a in
     let b = c.args.b in
-    let found = tile_found a b c.in_ok-side_a.side_a c.in_ok-side_b.side_b c.loop-tile.tile c.in_ok-spot.field-0 c.in_ok-side_a.ensures c.in_ok-side_b.ensures c.in_ok-spot.ensures in
+    let t = c.loop-tile.tile in
+    let found = tile_found a b c.in_ok-side_a.side_a c.in_ok-side_b.side_b t c.in_ok-spot.field-0 c.in_ok-side_a.ensures c.in_ok-side_b.ensures c.in_ok-spot.ensures in
+    let none = sym found ∙ nothing c.in_ok-spot.field-0 (λ x is. c.in_default.not-Some x is) in
     record {
+      known = λ now.
+          known_after c.loop-tile.known c.are_bare-bare.result (AreSameMain a.stream.now b.stream.now) c.loop-tile.invariant.known
+          (λ is. main_from a.stream.now b.stream.now t (c.are_bare-bare.ensures is) (headers_none a.stream.now b.stream.now a.blocks.now b.blocks.now t none)) (sym c.either-known.ensures ∙ now);
       first_a = behind_of a c.in_ok-side_a.side_a c.loop-tile.tile c.behind-first_a.result c.in_ok-side_a.ensures c.behind-first_a.ensures;
       first_b = behind_of b c.in_ok-side_b.side_b c.loop-tile.tile c.behind-first_b.result c.in_ok-side_b.ensures c.behind-first_b.ensures;
-      none = joined_goes (differs (meaning_in a) (meaning_in b)) (tile_items a.stream.now) c.loop-tile.tile c.loop-tile.invariant.none (sym found ∙ nothing c.in_ok-spot.field-0 (λ x is. c.in_default.not-Some x is));
+      none = joined_goes (differs (meaning_in a) (meaning_in b)) (tile_items a.stream.now) c.loop-tile.tile c.loop-tile.invariant.none none;
     }

@@ -1,10 +1,12 @@
 use Rattle.std.proofs.Common.{◌≡◌, None}
+use Rattle.std.specs.Prelude.{IsTrue}
 use Rattle.std.specs.List.{find}
 use Rattle.jx_base.specs.Joined.{joined}
 use Rattle.jx_geom.specs.Numbering.{blocks_below}
 use Rattle.jx_codestream.specs.First.{canvas_of}
 use Rattle.jx_codestream.specs.Shapes.{shapes_of}
 use Rattle.jx_same.specs.Items.{differs, tile_items}
+use Rattle.jx_same.specs.Shared.{AreSameMain}
 use Rattle.jx_same.specs.Sides.{meaning_in}
 use Rattle.jx_same.proofs.tiles.compare_all.Given as goal
 
@@ -12,5 +14,6 @@ abbrev pub invariant-loop-tile : goal.invariant-loop-tile
 invariant-loop-tile l = record {
   first_a : l.first_a ≡ blocks_below (canvas_of l.a.stream.now.siz) (shapes_of l.a.stream.now) l.tile;
   first_b : l.first_b ≡ blocks_below (canvas_of l.b.stream.now.siz) (shapes_of l.b.stream.now) l.tile;
+  known : IsTrue l.known → AreSameMain l.a.stream.now l.b.stream.now;
   none : find (differs (meaning_in l.a) (meaning_in l.b)) (joined (tile_items l.a.stream.now) 0 l.tile) ≡ None;
 }

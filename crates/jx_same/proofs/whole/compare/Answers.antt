@@ -4,6 +4,7 @@ use Rattle.jx_base.proofs.Lists.{some_none}
 use Rattle.jx_plan.specs.Meaning.{Meaning, meaning_of}
 use Rattle.jx_same.specs.Items.{differs, items_of}
 use Rattle.jx_same.proofs.HeaderLemmas.{self_none}
+use Rattle.jx_same.proofs.OneLemmas.{means_one}
 use Rattle.jx_same.proofs.WithinLemmas.{none_differs}
 use Rattle.jx_same.proofs.whole.compare.Goals as goal
 
@@ -18,3 +19,7 @@ pub returns-in-Some-clause-within : goal.returns-in-Some-clause-within
 returns-in-Some-clause-within c = λ one.
     (let none = none_differs c.args.sa.now c.args.sb.now c.args.ba.now c.args.bb.now one in
     absurd (some_none c.in-Some.spot (sym c.in-Some.is ∙ c.in_ok-first_differing.ensures ∙ none)))
+
+pub returns-in-None-clause-one : goal.returns-in-None-clause-one
+returns-in-None-clause-one c = λ same.
+    means_one c.args.sa.now c.args.sb.now c.args.ba.now c.args.bb.now c.requires.a c.requires.b (sym c.in_ok-first_differing.ensures ∙ c.in-None.is)
