@@ -90,5 +90,7 @@ pub(crate) fn all_parts(
         push_end(style, *end, first, table, &mut parts)?;
         first = end.passes;
     }
+    // They are kept until the block is written.
+    parts.shrink_to_fit();
     Ok(parts)
 }

@@ -25,7 +25,7 @@ pub(crate) fn by_pieces(alloc: Global, pieces: &[Piece<'_>]) -> Result<Vec<u32>,
     requires { bytes_in (map value_of pieces.now) ≤ 2 ^ 28 }
     ensures { IfOk result (λ table. table.items ≡ 0 ∷ rows 0 (map value_of pieces.now)) }
 {
-    let mut table = Vec::new(alloc);
+    let mut table = Vec::with_capacity(alloc, pieces.len() + 1)?;
     table.push(0)?;
     let mut sent = 0u32;
     for piece in pieces {
@@ -137,7 +137,7 @@ pub(crate) fn by_looks(
     requires bytes { bytes_before (map bytes_of segments.now) (length segments.now) ≤ 2 ^ 28 }
     ensures { IfOk result (λ table. table.items ≡ map (sent_by_looks style.bits passes (map bytes_of segments.now) looked.now) (range_with_len 0 (passes + 1))) }
 {
-    let mut table = Vec::new(alloc);
+    let mut table = Vec::with_capacity(alloc, usize::from(passes) + 1)?;
     let mut at = 0;
     let mut before = 0;
     for sent in 0..passes + 1 {

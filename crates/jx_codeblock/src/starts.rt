@@ -26,12 +26,22 @@ fn all_starts(alloc: Global, pieces: &[Piece<'_>]) -> Result<Vec<u32>, NoMemory>
     Ok(starts)
 }
 
-/// Where pieces begin. Of a few it isn't told, and takes no memory.
+/// Whether some piece has bytes.
+fn has_bytes(pieces: &[Piece<'_>]) -> bool {
+    for piece in pieces {
+        if piece.bytes.len() > 0 {
+            return true;
+        }
+    }
+    false
+}
+
+/// Where pieces begin. Of a few, and of those that all have no bytes, it isn't told, and takes no memory.
 pub(crate) fn starts_of(alloc: Global, pieces: &[Piece<'_>]) -> Result<Vec<u32>, NoMemory>
     requires { bytes_in (map value_of pieces.now) ≤ 2 ^ 28 }
     ensures { IfOk result (λ starts. AreStarts (map value_of pieces.now) starts.items) }
 {
-    if pieces.len() <= FEW {
+    if pieces.len() <= FEW || !has_bytes(pieces) {
         return Ok(Vec::new(alloc));
     }
     all_starts(alloc, pieces)

@@ -1,7 +1,10 @@
 -- Bits that are written.
-use Rattle.std.proofs.Common.{◌≡◌, ℕ, zero, suc, ◌+◌, ◌-◌, ◌/◌, ◌%◌, ◌^◌, ◌<◌, ◌≤◌, ◌==◌, nat_le, Bool, true, false, List, [], ◌∷◌, ◌++◌, replicate, refl, sym, ap, ◌∙◌, subst, cond, arith, append_assoc, pow_mono, inl, inr, ◌⊎◌}
+use Rattle.std.proofs.Common.{◌≡◌, ℕ, zero, suc, ◌+◌, ◌-◌, ◌*◌, ◌/◌, ◌%◌, ◌^◌, ◌<◌, ◌≤◌, ◌==◌, nat_le, Bool, true, false, List, [], ◌∷◌, ◌++◌, replicate, refl, sym, ap, ◌∙◌, subst, cond, arith, append_assoc, pow_mono, inl, inr, ◌⊎◌}
 use Rattle.std.proofs.lemmas.Bool.Decides.{nat_tests}
 use Rattle.std.proofs.lemmas.Bool.{cases_lt}
+use Rattle.std.proofs.lemmas.Nat.{leading_le, leading_length}
+use Rattle.std.proofs.Math.Nat.{two-pow-succ}
+use Rattle.std.specs.Int.Count.{count_leading_zeros}
 use Rattle.jx_packet_header.specs.declared.HeaderPart.{HeaderPart}
 use Rattle.jx_packet_header.specs.Parts.{width}
 use Rattle.jx_packet_header.specs.LeavesFit.{AreShort, AllFit}
@@ -153,6 +156,23 @@ size_fits m w short le = elim (cases_lt m (2 ^ w)) [
     | inr big ↦ (let p : 2 ^ 32 ≤ 2 ^ w = pow_mono big in omega arith)
   ]
 ]
+
+-- the leading zeros of a number that is stored in 32 bits
+pub zeros_few : (m n : ℕ) → n ≡ count_leading_zeros 32 m → n ≤ 32
+zeros_few m n is = omega (arith, leading_le 32 m)
+
+pub size_is : (m : ℕ) → m < 2 ^ 32 → 32 - count_leading_zeros 32 m ≡ size m
+unfolding size
+size_is m short = (let top = leading_length 32 m short in by top.0 top.1 top.2 top.3)
+  where
+    by : (w : ℕ) → count_leading_zeros 32 m + w ≡ 32 → m < 2 ^ w → 2 ^ w ≤ 2 * m + 1 → 32 - count_leading_zeros 32 m ≡ powers 32 m
+    by zero e below above = let le : powers 32 m ≤ 0 = powers_small 32 m 0 below in omega arith
+    by (suc w) e below above =
+        let twice : 2 ^ suc w ≡ 2 ^ w + 2 ^ w = two-pow-succ w in
+        let half : 2 ^ w ≤ m = omega arith in
+        let most : powers 32 m ≤ suc w = powers_small 32 m (suc w) below in
+        let least : w < powers 32 m = powers_large 32 m w half (omega arith) in
+        omega arith
 
 pub raise_fits : (lblock : ℕ) (parts : List HeaderPart) → AreShort parts → AllFit (lblock + raise_of lblock parts) parts
 raise_fits lblock parts s = all parts (raise_of lblock parts) s (omega arith)

@@ -14,18 +14,12 @@ use jx_base::{Style, ends_segment};
 use jx_tagtree::BitReader;
 
 /// How many binary digits a number has.
-#[tactic(auto, unfolding(crate::specs::Words::size))]
+#[tactic(auto, using(crate::proofs::PutLemmas::zeros_few))]
 pub(crate) fn digits(number: u32) -> u32
     ensures value { result ≡ size number }
     ensures few { result ≤ 32 }
 {
-    let mut digits = 0;
-    for place in 0..32u32 {
-        if number >= 1 << place {
-            digits += 1;
-        }
-    }
-    digits
+    32 - number.leading_zeros()
 }
 
 /// How many bits the length of a part takes (T.800 B.10.7).

@@ -24,6 +24,7 @@ use crate::spread::spread;
 use jx_base::NoMemory;
 use jx_geom::{Resolution, TileGeom};
 use jx_marker::Progression;
+use std::alloc::Global;
 
 /// Lists the first packet of each layer of a resolution from one to an end.
 fn push_layers(
@@ -101,26 +102,40 @@ fn push_heads(
     Ok(())
 }
 
-/// Sorts packets by their keys.
-fn sort_all(geom: &TileGeom, order: Order, heads: &mut [PacketName])
+/// Sorts packets by their keys. Those of a resolution stand in order already: such runs are found and merged, so that a key
+/// isn't made at each step of a sort, but some four times for a packet. It takes room for as many packets while it sorts.
+fn sort_all(
+    alloc: Global,
+    geom: &TileGeom,
+    order: Order,
+    heads: &mut [PacketName],
+) -> Result<(), NoMemory>
     ensures moved { IsPermutation heads.old heads.new }
-    ensures sorted { AreSorted geom.now order heads.new }
+    ensures sorted { OnOk result (AreSorted geom.now order heads.new) }
 {
-    heads.sort_unstable_by_key(|name| sort_key(geom, order, *name));
+    heads.sort_by_key(alloc, |name| sort_key(geom, order, *name))?;
+    Ok(())
 }
 
 /// Sorts the packets from a place on.
-fn sort_from(geom: &TileGeom, order: Order, from: usize, list: &mut [PacketName])
+fn sort_from(
+    alloc: Global,
+    geom: &TileGeom,
+    order: Order,
+    from: usize,
+    list: &mut [PacketName],
+) -> Result<(), NoMemory>
     requires { from ≤ length list.old }
     ensures front { take from list.new ≡ take from list.old }
     ensures moved { IsPermutation (drop from list.old) (drop from list.new) }
-    ensures sorted { AreSorted geom.now order (drop from list.new) }
+    ensures sorted { OnOk result (AreSorted geom.now order (drop from list.new)) }
 {
-    sort_all(geom, order, &mut list[from..]);
+    sort_all(alloc, geom, order, &mut list[from..])
 }
 
 /// Appends what an entry sends: its packets of the layers that weren't sent, in its order.
 pub(crate) fn push_entry(
+    alloc: Global,
     geom: &TileGeom,
     layers: u16,
     entry: Progression,
@@ -137,7 +152,7 @@ pub(crate) fn push_entry(
     let order = order_from(entry.order);
     let from = list.len();
     push_heads(geom, order, layers, entry, sent, list)?;
-    sort_from(geom, order, from, list);
+    sort_from(alloc, geom, order, from, list)?;
     spread(geom, order, entry.lye.min(layers), from, list)?;
     Ok(())
 }

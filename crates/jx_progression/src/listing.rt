@@ -82,7 +82,7 @@ fn list_all(
 {
     let mut list = Vec::with_capacity(alloc, count(geom.resolutions(), layers))?;
     for entry in entries {
-        push_entry(geom, layers, *entry, sent, &mut list)?;
+        push_entry(alloc, geom, layers, *entry, sent, &mut list)?;
         mark(geom, layers, *entry, sent);
     }
     Ok(list)

@@ -1,9 +1,9 @@
 -- The parts of blocks layer by layer, and their bytes.
-use Rattle.std.proofs.Common.{◌≡◌, inl, inr, ℕ, zero, suc, ◌<◌, ◌≤◌, ◌==◌, Bool, true, false, cond, ◌+◌, List, [], ◌∷◌, ◌++◌, length, map, drop, get_or, refl, sym, ap, ◌∙◌, subst, append-nil, append_assoc, slice_set, All, arith}
+use Rattle.std.proofs.Common.{◌≡◌, inl, inr, ℕ, zero, suc, ◌<◌, ◌≤◌, ◌==◌, Bool, true, false, cond, ◌+◌, ◌-◌, List, [], ◌∷◌, ◌++◌, length, map, nat_lt, take, drop, get_or, refl, sym, ap, ◌∙◌, subst, append-nil, append_assoc, slice_set, All, arith}
 use Rattle.std.specs.Prelude.{slice_index_or, Option, Some}
 use Rattle.std.specs.Global.{Vec}
 use Rattle.std.specs.List.{flat_map, slice_get, AllByRecursion}
-use Rattle.std.proofs.lemmas.Bool.{cases_eq}
+use Rattle.std.proofs.lemmas.Bool.{cases_eq, cases_lt}
 use Rattle.std.proofs.lemmas.Bool.Decides.{nat_tests}
 use Rattle.std.proofs.lemmas.Grind.{flat_map-append}
 use Rattle.std.proofs.lemmas.List.{at_drop_all, at_drop_more, length-map}
@@ -21,15 +21,29 @@ use Rattle.jx_tier2_writer.specs.declared.block_parts.BlockPart.{BlockPart}
 
 -- one part, then the others
 pub sent_next : (layer block : ℕ) (p : LayerPart) (parts : List LayerPart) → block_parts_in layer block (p ∷ parts) ≡ block_parts_in layer block (p ∷ []) ++ block_parts_in layer block parts
-sent_next layer block p parts = by (p.layer == layer)
+sent_next layer block p parts = by (p.layer == layer) (nat_lt p.from p.to)
   where
-    by : (b : Bool) → cond b (record { block = block; part = p } ∷ block_parts_in layer block parts) (block_parts_in layer block parts)
-        ≡ cond b (record { block = block; part = p } ∷ []) [] ++ block_parts_in layer block parts
-    by true = refl
-    by false = refl
+    rest : List BlockPart
+    rest = block_parts_in layer block parts
 
-sent_here : (layer block : ℕ) (p : LayerPart) (parts : List LayerPart) → p.layer ≡ layer → block_parts_in layer block (p ∷ parts) ≡ record { block = block; part = p } ∷ block_parts_in layer block parts
-sent_here layer block p parts e = grind (arith, nat_tests)
+    by : (a b : Bool) → cond a (cond b (record { block = block; part = p } ∷ rest) rest) rest ≡ cond a (cond b (record { block = block; part = p } ∷ []) []) [] ++ rest
+    by true true = refl
+    by true false = refl
+    by false b = refl
+
+sent_here : (layer block : ℕ) (p : LayerPart) (parts : List LayerPart) → p.layer ≡ layer → p.from < p.to
+    → block_parts_in layer block (p ∷ parts) ≡ record { block = block; part = p } ∷ block_parts_in layer block parts
+sent_here layer block p parts e lt = grind (arith, nat_tests)
+
+-- one without bytes, of whatever layer
+sent_none : (layer block : ℕ) (p : LayerPart) (parts : List LayerPart) → p.to ≤ p.from → block_parts_in layer block (p ∷ parts) ≡ block_parts_in layer block parts
+sent_none layer block p parts le = grind (arith, nat_tests)
+
+pub none_put : (layer block : ℕ) (p : LayerPart) (row : List BlockPart) → p.to ≤ p.from → row ≡ row ++ block_parts_in layer block (p ∷ [])
+none_put layer block p row le = sym (ap (λ (xs : List BlockPart). row ++ xs) (sent_none layer block p [] le) ∙ append-nil row)
+
+no_bytes : (bytes : List ℕ) (p : LayerPart) → p.to ≤ p.from → layer_part_bytes bytes p ≡ []
+no_bytes bytes p le = let none : p.to - p.from ≡ 0 = omega arith in ap (λ (n : ℕ). take n (drop p.from bytes)) none
 
 sent_past : (layer block : ℕ) (p : LayerPart) (parts : List LayerPart) → (p.layer ≡ layer → ⊥) → block_parts_in layer block (p ∷ parts) ≡ block_parts_in layer block parts
 sent_past layer block p parts ne = grind (arith, nat_tests)
@@ -45,10 +59,16 @@ parts_bytes datas layer block (p ∷ parts) =
     let pieces : List PieceValue = map (piece_of bytes) parts in
     let rest : row_bytes datas (block_parts_in layer block parts) ≡ flat_map (λ (q : PieceValue). q.bytes) (pieces_at layer pieces) = parts_bytes datas layer block parts in
     elim (cases_eq p.layer layer) [
-      | inl e ↦
-          ap (row_bytes datas) (sent_here layer block p parts e)
-          ∙ ap (λ (xs : List ℕ). own.bytes ++ xs) rest
-          ∙ ap (flat_map (λ (q : PieceValue). q.bytes)) (sym (layer_here layer own pieces e))
+      | inl e ↦ elim (cases_lt p.from p.to) [
+        | inl some ↦
+            ap (row_bytes datas) (sent_here layer block p parts e some)
+            ∙ ap (λ (xs : List ℕ). own.bytes ++ xs) rest
+            ∙ ap (flat_map (λ (q : PieceValue). q.bytes)) (sym (layer_here layer own pieces e))
+        | inr none ↦
+            ap (row_bytes datas) (sent_none layer block p parts none) ∙ rest
+            ∙ ap (λ (xs : List ℕ). xs ++ flat_map (λ (q : PieceValue). q.bytes) (pieces_at layer pieces)) (sym (no_bytes bytes p none))
+            ∙ ap (flat_map (λ (q : PieceValue). q.bytes)) (sym (layer_here layer own pieces e))
+      ]
       | inr ne ↦
           ap (row_bytes datas) (sent_past layer block p parts ne) ∙ rest ∙ ap (flat_map (λ (q : PieceValue). q.bytes)) (sym (layer_past layer own pieces ne))
     ]
@@ -71,7 +91,10 @@ parts_inside datas layer block (p ∷ parts) lt all =
     let P : List BlockPart → Type 0 = λ xs. AllByRecursion (IsBlockPart datas) xs in
     let rest : P (block_parts_in layer block parts) = parts_inside datas layer block parts lt all.1 in
     elim (cases_eq p.layer layer) [
-      | inl e ↦ subst P (sym (sent_here layer block p parts e)) (record { there = lt; inside = all.0 }, rest)
+      | inl e ↦ elim (cases_lt p.from p.to) [
+        | inl some ↦ subst P (sym (sent_here layer block p parts e some)) (record { there = lt; inside = all.0 }, rest)
+        | inr none ↦ subst P (sym (sent_none layer block p parts none)) rest
+      ]
       | inr ne ↦ subst P (sym (sent_past layer block p parts ne)) rest
     ]
 
@@ -115,14 +138,14 @@ row_get [] i w lt e = absurd (omega arith)
 row_get (x ∷ vecs) zero w lt e = ap (λ (y : Vec BlockPart). y.items) (sym e)
 row_get (x ∷ vecs) (suc i) w lt e = row_get vecs i w (omega arith) e
 
-pub pushed : (vecs : List (Vec BlockPart)) (i layer block : ℕ) (v w : Vec BlockPart) (p : LayerPart) → i ≡ p.layer → i < length vecs → w ≡ slice_index_or vecs i w
+pub pushed : (vecs : List (Vec BlockPart)) (i layer block : ℕ) (v w : Vec BlockPart) (p : LayerPart) → i ≡ p.layer → i < length vecs → p.from < p.to → w ≡ slice_index_or vecs i w
     → v.items ≡ w.items ++ record { block = block; part = p } ∷ [] → row_at (rows_of (slice_set vecs i v)) layer ≡ row_at (rows_of vecs) layer ++ block_parts_in layer block (p ∷ [])
-pushed vecs i layer block v w p is lt at made = elim (cases_eq layer i) [
+pushed vecs i layer block v w p is lt some at made = elim (cases_eq layer i) [
   | inl e ↦
       let same : p.layer ≡ layer = sym (e ∙ is) in
       ap (row_at (rows_of (slice_set vecs i v))) e ∙ set_same vecs i v lt ∙ made
       ∙ ap (λ (xs : List BlockPart). xs ++ record { block = block; part = p } ∷ []) (sym (row_get vecs i w lt at) ∙ ap (row_at (rows_of vecs)) (sym e))
-      ∙ ap (λ (xs : List BlockPart). row_at (rows_of vecs) layer ++ xs) (sym (sent_here layer block p [] same))
+      ∙ ap (λ (xs : List BlockPart). row_at (rows_of vecs) layer ++ xs) (sym (sent_here layer block p [] same some))
   | inr ne ↦
       let apart : p.layer ≡ layer → ⊥ = λ (e : p.layer ≡ layer). ne (sym e ∙ sym is) in
       set_other vecs i layer v ne ∙ sym (append-nil (row_at (rows_of vecs) layer))

@@ -1,5 +1,5 @@
 -- Inner: parts of blocks, layer by layer, and their bytes.
-use Rattle.std.specs.Prelude.{◌<◌, ◌==◌, ℕ, List, [], ◌∷◌, length, map, slice_index_or, if◌then◌else◌}
+use Rattle.std.specs.Prelude.{◌<◌, ◌==◌, ℕ, List, [], ◌∷◌, length, map, nat_lt, slice_index_or, if◌then◌else◌}
 use Rattle.std.specs.List.{All, flat_map}
 use Rattle.std.specs.Global.{Vec}
 use Rattle.jx_base.specs.Pieces.{PieceValue}
@@ -16,10 +16,12 @@ rows_of vecs = map (λ v. v.items) vecs
 abbrev pub row_at : {X : Type 0} → List (List X) → ℕ → List X
 row_at rows i = slice_index_or rows i []
 
--- the parts of a block in a layer
+-- the parts of a block in a layer that have bytes
 abbrev pub block_parts_in : ℕ → ℕ → List LayerPart → List BlockPart
 block_parts_in layer block [] = []
-block_parts_in layer block (p ∷ parts) = if p.layer == layer then record { block = block; part = p } ∷ block_parts_in layer block parts else block_parts_in layer block parts
+block_parts_in layer block (p ∷ parts) =
+    (if p.layer == layer then (if nat_lt p.from p.to then record { block = block; part = p } ∷ block_parts_in layer block parts else block_parts_in layer block parts)
+    else block_parts_in layer block parts)
 
 -- the bytes of a part, where the blocks have these bytes
 abbrev pub block_part_bytes : List (List ℕ) → BlockPart → List ℕ

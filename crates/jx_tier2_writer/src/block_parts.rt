@@ -17,13 +17,27 @@ pub(crate) struct BlockPart {
     pub(crate) part: LayerPart,
 }
 
-/// Puts a part behind those of its layer.
+/// Puts a part that has bytes behind those of its layer.
+fn push_sent(rows: &mut Vec<Vec<BlockPart>>, block: u32, part: LayerPart) -> Result<(), NoMemory>
+    requires layer { part.layer < length rows.old.items }
+    requires some { part.from < part.to }
+    ensures long { OnOk result (length rows.new.items ≡ length rows.old.items) }
+    ensures each { OnOk result ((l : ℕ) → row_at (rows_of rows.new.items) l ≡ row_at (rows_of rows.old.items) l ++ block_parts_in l block (part ∷ [])) }
+{
+    rows[usize::from(part.layer)].push(BlockPart { block, part })?;
+    Ok(())
+}
+
+/// Puts a part behind those of its layer. One without bytes takes no place among them.
+#[tactic(auto, using(crate::proofs::SentLemmas::none_put))]
 fn put_sent(rows: &mut Vec<Vec<BlockPart>>, block: u32, part: LayerPart) -> Result<(), NoMemory>
     requires { part.layer < length rows.old.items }
     ensures long { OnOk result (length rows.new.items ≡ length rows.old.items) }
     ensures each { OnOk result ((l : ℕ) → row_at (rows_of rows.new.items) l ≡ row_at (rows_of rows.old.items) l ++ block_parts_in l block (part ∷ [])) }
 {
-    rows[usize::from(part.layer)].push(BlockPart { block, part })?;
+    if part.from < part.to {
+        return push_sent(rows, block, part);
+    }
     Ok(())
 }
 

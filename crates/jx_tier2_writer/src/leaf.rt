@@ -36,8 +36,8 @@ fn part_at(part: &LayerPart, block: u32) -> LeafPart
 fn leaf_of<B: Coded>(alloc: Global, block: &B, leaf: u32) -> Result<Leaf, NoMemory>
     ensures { IfOk result (λ made. leaf_of made ≡ leaf_from leaf (Some (B.block block.now))) }
 {
-    let mut parts = Vec::new(alloc);
     let list = block.parts();
+    let mut parts = Vec::with_capacity(alloc, list.len())?;
     for part in list {
         parts.push(part_at(part, leaf))?;
     }
@@ -60,7 +60,7 @@ pub(crate) fn leaves_of<B: Coded>(
     ensures { IfOk result (λ made. map leaf_of made.items ≡ own_leaves geom.now (map B.block values.now) comp res precinct) }
 {
     let leaves = geom.leaves(comp, res, precinct);
-    let mut made = Vec::new(alloc);
+    let mut made = Vec::with_capacity(alloc, leaves.count())?;
     for leaf in 0..leaves.count() as u32 {
         let block = block_at(values, leaves.number(leaf));
         made.push(leaf_of(alloc, block, leaf)?)?;

@@ -1,7 +1,6 @@
-use Rattle.std.proofs.Common.{◌≡◌, ℕ, ◌∙◌, ap, arith}
-use Rattle.jx_packet_header.specs.Words.{powers, size}
+use Rattle.std.proofs.Common.{arith}
+use Rattle.jx_packet_header.proofs.PutLemmas.{size_is}
 use Rattle.jx_packet_header.proofs.parts.digits.Goals as goal
 
 pub returns-clause-value : goal.returns-clause-value
-unfolding size
-returns-clause-value c = let e : c.loop-place.place ≡ 32 = omega arith in c.loop-place.invariant.0 ∙ ap (λ (k : ℕ). powers k c.args.number) e
+returns-clause-value c = size_is c.args.number (omega arith)

@@ -36,6 +36,6 @@ returns-clause-lists c =
     let whole = whole_slice c.push_heads.new.list.items c.sort_from.new.list c.push_heads.new.list.len (omega arith) (omega arith) in
     entry_lists c.args.geom.now c.args.layers c.args.entry c.args.sent.now c.order_from-order.result c.min.result (drop c.len-from.result c.deref_mut.result.now)
     (drop c.len-from.result c.sort_from.new.list) _ (drop (length c.args.list.now.items) c.spread.new.list.items) c.components-components.ensures.range
-    c.order_from-order.ensures c.min.ensures made c.sort_from.ensures.moved c.sort_from.ensures.sorted
+    c.order_from-order.ensures c.min.ensures made c.sort_from.ensures.moved c.in_ok-sort_from.ensures.sorted
     (ap (λ (ys : List PacketName). drop c.len-from.result ys) whole)
     (ap (λ i. drop i c.spread.new.list.items) (sym here) ∙ c.in_ok-spread.ensures.names)
