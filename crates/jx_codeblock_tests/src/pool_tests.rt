@@ -318,6 +318,46 @@ fn wrong_in_the_middle(rt: HostRuntime) -> Result<(), Fail> {
     Ok(())
 }
 
+/// Notes how often blocks of even and of odd numbers were entered and left.
+#[derive(Drop)]
+struct Noting {
+    entered: [AtomicU64; 2],
+    left: [AtomicU64; 2],
+}
+
+impl Gate for Noting {
+    fn begin(&self, _blocks: u32) {}
+
+    fn enter(&self, block: u32) {
+        let side = if block % 2 == 0 { 0 } else { 1 };
+        self.entered[side].fetch_add(1, SeqCst);
+    }
+
+    fn leave(&self, block: u32) {
+        let side = if block % 2 == 0 { 0 } else { 1 };
+        self.left[side].fetch_add(1, SeqCst);
+    }
+}
+
+// Blocks of odd numbers are kept, and told to nobody.
+#[test]
+fn kept_blocks_are_not_told(rt: HostRuntime) -> Result<(), Fail> {
+    for threads in [1, 4] {
+        let gate = Noting {
+            entered: [AtomicU64::new(0), AtomicU64::new(0)],
+            left: [AtomicU64::new(0), AtomicU64::new(0)],
+        };
+        let made = run(&rt, rt.alloc(), 9, 0, 9, true, (threads, 64, MOST), &gate);
+        equal(&rt, given(made)?.0.len(), 9);
+        for (side, count) in [(0_usize, 5), (1, 0)] {
+            check(&rt, side < 2);
+            equal(&rt, gate.entered[side].load(SeqCst), count);
+            equal(&rt, gate.left[side].load(SeqCst), count);
+        }
+    }
+    Ok(())
+}
+
 // Blocks of odd places are kept, the wrong one among them.
 #[test]
 fn kept_and_coded_anew(rt: HostRuntime) -> Result<(), Fail> {
