@@ -325,6 +325,15 @@ struct Noting {
     left: [AtomicU64; 2],
 }
 
+impl Noting {
+    fn new() -> Noting {
+        Noting {
+            entered: [AtomicU64::new(0), AtomicU64::new(0)],
+            left: [AtomicU64::new(0), AtomicU64::new(0)],
+        }
+    }
+}
+
 impl Gate for Noting {
     fn begin(&self, _blocks: u32) {}
 
@@ -343,10 +352,7 @@ impl Gate for Noting {
 #[test]
 fn kept_blocks_are_not_told(rt: HostRuntime) -> Result<(), Fail> {
     for threads in [1, 4] {
-        let gate = Noting {
-            entered: [AtomicU64::new(0), AtomicU64::new(0)],
-            left: [AtomicU64::new(0), AtomicU64::new(0)],
-        };
+        let gate = Noting::new();
         let made = run(&rt, rt.alloc(), 9, 0, 9, true, (threads, 64, MOST), &gate);
         equal(&rt, given(made)?.0.len(), 9);
         for (side, count) in [(0_usize, 5), (1, 0)] {
