@@ -17,6 +17,7 @@ use std::test::Fail;
 
 /// The most planes of a block, and the most passes.
 const PLANES: u8 = 74;
+
 const PASSES: u16 = 220;
 
 /// A coefficient of 74 drawn bits, of which the lowest is 1.
@@ -101,9 +102,11 @@ fn go_round(
     let coded = coded_in(alloc, old, lists)?;
     let decoded = decode_flags(alloc, grid.width(), grid.height(), &coded)?;
     let recoded = recode_flags(alloc, grid.width(), grid.height(), &coded, new)?;
-    Ok(is_back(grid, &decoded.grid)
-        && recoded.wrong.is_none()
-        && are_same(&recoded.segments, others))
+    Ok(
+        is_back(grid, &decoded.grid)
+            && recoded.wrong.is_none()
+            && are_same(&recoded.segments, others),
+    )
 }
 
 /// The segments of a grid's 220 passes.
@@ -113,9 +116,22 @@ fn written(alloc: Global, grid: &FlagGrid, style: Style) -> Result<Vec<Vec<u8>>,
     encode_flags(alloc, grid, Band::HL, style, PLANES, PASSES)
 }
 
-/// How many bytes the one segment of a block has, whose drawn coefficients in 74 planes go through all three walks: in one segment and
-/// in 220, from each into the other. None where they don't.
+/// How many bytes the one segment of a block has whose drawn coefficients in 74 planes go through all three walks; none where they don't.
 fn length_of(alloc: Global, width: u16, height: u16) -> Result<Option<usize>, NoMemory>
+    requires wide { width ≤ 1024 }
+    requires high { height ≤ 1024 }
+{
+    let style = Style { bits: 0 };
+    let grid = drawn(alloc, width, height)?;
+    let lists = written(alloc, &grid, style)?;
+    if lists.len() != 1 || !go_round(alloc, &grid, style, &lists, style, &lists)? {
+        return Ok(None);
+    }
+    Ok(Some(lists[0].len()))
+}
+
+/// Whether a block of drawn coefficients in 74 planes goes through all three walks in one segment and in 220, from each into the other.
+fn go_both_ways(alloc: Global, width: u16, height: u16) -> Result<bool, NoMemory>
     requires wide { width ≤ 1024 }
     requires high { height ≤ 1024 }
 {
@@ -124,18 +140,15 @@ fn length_of(alloc: Global, width: u16, height: u16) -> Result<Option<usize>, No
     let grid = drawn(alloc, width, height)?;
     let lists = written(alloc, &grid, whole)?;
     let others = written(alloc, &grid, cut)?;
-    if lists.len() != 1 || others.len() != usize::from(PASSES) {
-        return Ok(None);
-    }
-    if !go_round(alloc, &grid, whole, &lists, cut, &others)?
-        || !go_round(alloc, &grid, cut, &others, whole, &lists)?
-    {
-        return Ok(None);
-    }
-    Ok(Some(lists[0].len()))
+    Ok(
+        lists.len() == 1
+            && others.len() == usize::from(PASSES)
+            && go_round(alloc, &grid, whole, &lists, cut, &others)?
+            && go_round(alloc, &grid, cut, &others, whole, &lists)?,
+    )
 }
 
-// The greatest square block, in 74 planes of 220 passes and in as many segments.
+// The greatest square block, in 74 planes of 220 passes.
 #[test]
 fn a_square_of_74_planes(rt: HostRuntime) -> Result<(), Fail> {
     let length = given(length_of(rt.alloc(), 64, 64))?;
@@ -148,6 +161,13 @@ fn a_square_of_74_planes(rt: HostRuntime) -> Result<(), Fail> {
 fn a_segment_of_over_64_kib(rt: HostRuntime) -> Result<(), Fail> {
     let length = given(length_of(rt.alloc(), 128, 64))?;
     check(&rt, length.is_some_and(|bytes| bytes > 0x1_0000));
+    Ok(())
+}
+
+#[test]
+fn as_many_segments_as_passes(rt: HostRuntime) -> Result<(), Fail> {
+    let same = go_both_ways(rt.alloc(), 32, 32);
+    check(&rt, given(same)?);
     Ok(())
 }
 
@@ -227,12 +247,7 @@ fn the_first_wrong_symbol(rt: HostRuntime) -> Result<(), Fail> {
         (false, true, Some(3)),
         (true, true, Some(0)),
     ] {
-        let segments = given(mixed(
-            rt.alloc(),
-            &right,
-            &wrong,
-            [first, false, false, last],
-        ))?;
+        let segments = given(mixed(rt.alloc(), &right, &wrong, [first, false, false, last]))?;
         let found = given(first_wrong(rt.alloc(), segments))?;
         equal_at(&rt, &(first, last), found, want);
     }

@@ -222,7 +222,14 @@ fn as_many_inside_as_threads(rt: HostRuntime) -> Result<(), Fail> {
     let bytes = many_tiles(rt.alloc(), 66)?;
     for (held, threads) in [(4, "4"), (64, "64")] {
         let gate = Crowd::new(rt.alloc(), 0, held, false)?;
-        crowded(&rt, &bytes, &gate, 66, 66, &words_of(threads, "64", DEFAULT))?;
+        crowded(
+            &rt,
+            &bytes,
+            &gate,
+            66,
+            66,
+            &words_of(threads, "64", DEFAULT),
+        )?;
     }
     Ok(())
 }
@@ -231,14 +238,7 @@ fn as_many_inside_as_threads(rt: HostRuntime) -> Result<(), Fail> {
 fn in_the_second_round_too(rt: HostRuntime) -> Result<(), Fail> {
     let bytes = two_rounds(rt.alloc())?;
     let gate = Crowd::new(rt.alloc(), 4096, 4, false)?;
-    crowded(
-        &rt,
-        &bytes,
-        &gate,
-        4100,
-        4,
-        &words_of("4", "64", DEFAULT),
-    )
+    crowded(&rt, &bytes, &gate, 4100, 4, &words_of("4", "64", DEFAULT))
 }
 
 #[test]

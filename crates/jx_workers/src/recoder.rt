@@ -63,8 +63,8 @@ impl<'a> Maker<Recoded<'a>> for Recoder<'a> {
     ghost told = { is_anew };
 
     fn is_told(&self, claim: &Claim) -> bool {
-        let place = (claim.number() - self.first) as usize;
-        self.jobs[place].style.is_some()
+        let at = (claim.number() - self.first) as usize;
+        self.jobs[at].style.is_some()
     }
 
     fn make(&self, claim: &Claim) -> Named<Recoded<'a>> {
