@@ -318,6 +318,32 @@ fn wrong_in_the_middle(rt: HostRuntime) -> Result<(), Fail> {
     Ok(())
 }
 
+/// Notes how often blocks of even and of odd numbers were left.
+#[derive(Drop)]
+struct Noting([AtomicU64; 2]);
+
+impl Gate for Noting {
+    fn begin(&self, _blocks: u32) {}
+
+    fn enter(&self, _block: u32) {}
+
+    fn leave(&self, block: u32) {
+        self.0[(block % 2) as usize].fetch_add(1, SeqCst);
+    }
+}
+
+// Blocks of odd numbers are kept, and told to nobody.
+#[test]
+fn kept_blocks_are_not_told(rt: HostRuntime) -> Result<(), Fail> {
+    for threads in [1, 4] {
+        let gate = Noting([AtomicU64::new(0), AtomicU64::new(0)]);
+        given(run(&rt, rt.alloc(), 9, 0, 9, true, (threads, 64, MOST), &gate))?;
+        equal(&rt, gate.0[0].load(SeqCst), 5);
+        equal(&rt, gate.0[1].load(SeqCst), 0);
+    }
+    Ok(())
+}
+
 // Blocks of odd places are kept, the wrong one among them.
 #[test]
 fn kept_and_coded_anew(rt: HostRuntime) -> Result<(), Fail> {

@@ -60,7 +60,7 @@ pub fn progress_line(alloc: Global, done: u32, all: u32) -> Result<String, Alloc
     format!(in alloc; "recoding {done} of {all} blocks")
 }
 
-/// A gate that shows how many blocks the workers are done with, at most ten times in a second, from the
+/// A gate that shows how many of the blocks that are coded anew are done, at most ten times in a second, from the
 /// second second of its run on. A clock or a standard error that fails shows nothing.
 #[derive(Drop)]
 pub struct Progress<'a, R> {

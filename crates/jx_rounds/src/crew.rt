@@ -25,8 +25,8 @@ use std::thread::Threads;
 /// The most bytes that the pieces of the blocks of a round may have together where workers make them.
 const MOST_BYTES: usize = 268_435_456;
 
-/// What workers are made with: the threads' and waiting's handle, the gate that is told of each block, and how many there are, inside
-/// which windows.
+/// What workers are made with: the threads' and waiting's handle, the gate that is told of each block that is coded anew, and how many
+/// there are, inside which windows.
 #[derive(Drop)]
 pub struct Crew<'a, R, G> {
     pub rt: &'a R,
@@ -82,12 +82,34 @@ fn answer<'a>(alloc: Global, job: &'a Job<'a>) -> Result<Named<Recoded<'a>>, NoM
     }
 }
 
+/// What is made of a job; the gate is told of one that is coded anew, before and after it is made.
+fn answer_told<'a, G: Gate>(
+    alloc: Global,
+    gate: &G,
+    job: &'a Job<'a>,
+) -> Result<Named<Recoded<'a>>, NoMemory>
+    requires { IsAsked job.now.block.now job.now.style job.now.ends }
+    ensures { IfOk result (λ named. named ≡ answer_of job.now) }
+{
+    if job.style.is_none() {
+        return answer(alloc, job);
+    }
+    gate.enter(job.number);
+    let result = answer(alloc, job);
+    gate.leave(job.number);
+    result
+}
+
 /// The entry of a job whose block is the only one in hand.
-fn entry_of<'a>(alloc: Global, job: &'a Job<'a>) -> Result<Entry<Recoded<'a>>, NoMemory>
+fn entry_of<'a, G: Gate>(
+    alloc: Global,
+    gate: &G,
+    job: &'a Job<'a>,
+) -> Result<Entry<Recoded<'a>>, NoMemory>
     requires { IsAsked job.now.block.now job.now.style job.now.ends }
     ensures { IfOk result (λ t. t ≡ record { number = job.now.number; worker = 0; seen = job.now.number; named = answer_of job.now }) }
 {
-    let named = answer(alloc, job)?;
+    let named = answer_told(alloc, gate, job)?;
     Ok(Taped {
         number: job.number,
         worker: 0,
@@ -98,8 +120,9 @@ fn entry_of<'a>(alloc: Global, job: &'a Job<'a>) -> Result<Entry<Recoded<'a>>, N
 
 /// Puts what is made of jobs one after another, on this thread, into an empty list.
 #[tactic(auto, using(crate::proofs::TapedLemmas::alone_all))]
-fn put_alone<'a>(
+fn put_alone<'a, G: Gate>(
     alloc: Global,
+    gate: &G,
     jobs: &'a [Job<'a>],
     entries: &mut Vec<Entry<Recoded<'a>>>,
 ) -> Result<(), NoMemory>
@@ -108,19 +131,23 @@ fn put_alone<'a>(
     ensures { OnOk result (AreMadeAlone jobs.entry.now entries.new.items) }
 {
     for job in jobs {
-        let entry = entry_of(alloc, job)?;
+        let entry = entry_of(alloc, gate, job)?;
         entries.push(entry)?;
     }
     Ok(())
 }
 
 /// What is made of jobs one after another, on this thread.
-fn made_alone<'a>(alloc: Global, jobs: &'a [Job<'a>]) -> Result<Vec<Entry<Recoded<'a>>>, NoMemory>
+fn made_alone<'a, G: Gate>(
+    alloc: Global,
+    gate: &G,
+    jobs: &'a [Job<'a>],
+) -> Result<Vec<Entry<Recoded<'a>>>, NoMemory>
     requires { All (λ j. IsAsked j.block.now j.style j.ends) jobs.now }
     ensures { IfOk result (λ entries. AreMadeAlone jobs.entry.now entries.items) }
 {
     let mut entries = Vec::new(alloc);
-    put_alone(alloc, jobs, &mut entries)?;
+    put_alone(alloc, gate, jobs, &mut entries)?;
     Ok(entries)
 }
 
@@ -170,5 +197,5 @@ pub fn made_blocks<'a, R: Threads + Wait + Sync, G: Gate + Sync>(
     if is_anew(jobs) && is_light(jobs) {
         return made_by_workers(crew, alloc, jobs, first);
     }
-    made_alone(alloc, jobs)
+    made_alone(alloc, crew.gate, jobs)
 }

@@ -22,3 +22,5 @@ mod raw_tests;
 mod recode_tests;
 #[cfg(test)]
 mod samples;
+#[cfg(test)]
+mod walk_rows;

@@ -1,11 +1,12 @@
 //! What becomes of an input whose bytes were read.
 
-ghost use Rattle.std.specs.Prelude.{◌≡◌, ◌<◌, ◌≤◌, [], length};
+ghost use Rattle.std.specs.Prelude.{◌≡◌, ◌<◌, ◌≤◌, ◌^◌, [], length};
 ghost use Rattle.jx_io.specs.Causes.{Rose};
 ghost use Rattle.jx_codestream.specs.Read.{IsRead};
 ghost use Rattle.jx_plan.specs.Planned.{chosen};
 ghost use Rattle.jx_options.specs.Wanted.{MayBeWanted};
 ghost use Rattle.jx_options.specs.Work.{MayBeWork};
+ghost use Rattle.jx_workers.specs.Told.{anew_in};
 ghost use Rattle.jx_transcode.specs.Filed.{IsAnswered, IsEndOf, blocks_told, status_of, told_by, told_of_plan};
 ghost use Rattle.jx_transcode.specs.Jp2Run.{IsPlaced};
 ghost use Rattle.jx_transcode.specs.Outcome.{most_bytes};
@@ -14,6 +15,7 @@ use crate::Status;
 use crate::device::MOST;
 use crate::file::write_file;
 use jx_base::Block;
+use jx_codeblock::Job;
 use jx_codestream::{Stream, StreamFault, read_stream};
 use jx_io::{Files, Gate};
 use jx_layers::{LayerPlanner, shortened};
@@ -140,6 +142,20 @@ fn refused_by(alloc: Global, fault: StreamFault) -> Ending
     }
 }
 
+/// How many of the blocks are coded anew.
+fn anew_in(jobs: &[Job<'_>]) -> u32
+    requires { length jobs.now ≤ 2 ^ 20 }
+    ensures { result ≡ anew_in jobs.now }
+{
+    let mut count = 0;
+    for job in jobs {
+        if job.style.is_some() {
+            count += 1;
+        }
+    }
+    count
+}
+
 /// What becomes of the input of a stream: its output is planned and written.
 fn rewrite<R: Threads + Wait + Sync, G: Gate + Sync, F: Files>(
     crew: &Crew<'_, R, G>,
@@ -176,9 +192,10 @@ fn rewrite<R: Threads + Wait + Sync, G: Gate + Sync, F: Files>(
         Ok(plan) => plan,
         Err(fault) => return unplanned_by(alloc, fault, read.len() as u32),
     };
-    let count = plan.jobs().len() as u32;
+    let jobs = plan.jobs();
+    let count = jobs.len() as u32;
     let mut tape = Vec::new(alloc);
-    crew.gate.begin(count);
+    crew.gate.begin(anew_in(jobs));
     let written = write_file(crew, alloc, files, to, &plan, &mut tape);
     crew.gate.end();
     ending_of(written, count, tape)

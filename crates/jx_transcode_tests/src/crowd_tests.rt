@@ -1,9 +1,9 @@
 //! Workers that a gate holds: as many are inside as there are threads, in the first round and in the second, and windows keep the next
-//! block out until the first has left.
+//! block out until the first has left. Blocks that are kept are told to nobody.
 
 use crate::bytes::{Edit, low_byte, put_all, spliced};
 use crate::checks::{check, equal, equal_at};
-use crate::run_tests::SMALL;
+use crate::run_tests::{GOOD, SMALL};
 use crate::runs::{holding, run_gated, run_words};
 use jx_io::Gate;
 use jx_transcode::Status;
@@ -22,7 +22,7 @@ const MANY: u64 = 1_000_000_000;
 /// The bytes that a window has where none is asked.
 const DEFAULT: &str = "268435456";
 
-/// Notes each block, and holds so many from a first one on until all of them have entered.
+/// Notes each block and how many are told at the beginning, and holds so many from a first one on until all of them have entered.
 #[derive(Drop)]
 struct Crowd {
     first: u32,
@@ -30,6 +30,7 @@ struct Crowd {
     /// Whether the block behind those may enter only once the first has left.
     narrow: bool,
     begun: AtomicU64,
+    told: AtomicU64,
     ended: AtomicU64,
     inside: AtomicU64,
     entered: Vec<AtomicU64>,
@@ -67,6 +68,7 @@ impl Crowd {
             held,
             narrow,
             begun: AtomicU64::new(0),
+            told: AtomicU64::new(0),
             ended: AtomicU64::new(0),
             inside: AtomicU64::new(0),
             entered: counters(alloc, 4_200)?,
@@ -93,8 +95,9 @@ impl Crowd {
 }
 
 impl Gate for Crowd {
-    fn begin(&self, _blocks: u32) {
+    fn begin(&self, blocks: u32) {
         self.begun.fetch_add(1, SeqCst);
+        self.told.fetch_add(u64::from(blocks), SeqCst);
     }
 
     fn enter(&self, block: u32) {
@@ -118,10 +121,12 @@ impl Gate for Crowd {
     }
 }
 
-// So many blocks from the first held one on were entered and left once, all were told in their turn, and nothing else came.
-fn is_whole(rt: &impl Abort, gate: &Crowd, count: u32) {
+// At the beginning, which came once, so many were told: those that are coded anew. So many blocks from the first held one on were
+// entered and left once, all in their turn, and nothing else came.
+fn is_whole(rt: &impl Abort, gate: &Crowd, told: u64, count: u32) {
     equal(rt, gate.wrong.load(SeqCst), 0);
     equal(rt, gate.begun.load(SeqCst), 1);
+    equal(rt, gate.told.load(SeqCst), told);
     equal(rt, gate.ended.load(SeqCst), 1);
     for place in 0..count {
         let block = gate.first.wrapping_add(place);
@@ -148,17 +153,19 @@ fn words_of<'a>(threads: &'a str, window: &'a str, most: &'a str) -> [&'a str; 1
     ]
 }
 
-// A run that a gate holds, of which so many blocks are told from the first held one on, makes the file that one thread makes.
+// A run that a gate holds, of which so many blocks are coded anew, and so many are looked at from the first held one on, makes the
+// file that one thread makes.
 fn crowded<R: Abort + AllocGlobal + Threads + Wait + Sync>(
     rt: &R,
     bytes: &[u8],
     gate: &Crowd,
+    told: u64,
     count: u32,
     words: &[&str],
 ) -> Result<(), Fail> {
     let left = run_gated(rt, words, &holding(bytes), gate)?;
     equal_at(rt, &words, left.report.status, Status::Done);
-    is_whole(rt, gate, count);
+    is_whole(rt, gate, told, count);
     let alone = run_words(rt, &words_of("1", "64", DEFAULT), &holding(bytes))?;
     check(rt, left.made().is_some() && left.made() == alone.made());
     Ok(())
@@ -215,7 +222,14 @@ fn as_many_inside_as_threads(rt: HostRuntime) -> Result<(), Fail> {
     let bytes = many_tiles(rt.alloc(), 66)?;
     for (held, threads) in [(4, "4"), (64, "64")] {
         let gate = Crowd::new(rt.alloc(), 0, held, false)?;
-        crowded(&rt, &bytes, &gate, 66, &words_of(threads, "64", DEFAULT))?;
+        crowded(
+            &rt,
+            &bytes,
+            &gate,
+            66,
+            66,
+            &words_of(threads, "64", DEFAULT),
+        )?;
     }
     Ok(())
 }
@@ -224,7 +238,7 @@ fn as_many_inside_as_threads(rt: HostRuntime) -> Result<(), Fail> {
 fn in_the_second_round_too(rt: HostRuntime) -> Result<(), Fail> {
     let bytes = two_rounds(rt.alloc())?;
     let gate = Crowd::new(rt.alloc(), 4096, 4, false)?;
-    crowded(&rt, &bytes, &gate, 4, &words_of("4", "64", DEFAULT))
+    crowded(&rt, &bytes, &gate, 4100, 4, &words_of("4", "64", DEFAULT))
 }
 
 #[test]
@@ -232,9 +246,35 @@ fn windows_keep_the_next_block_out(rt: HostRuntime) -> Result<(), Fail> {
     let bytes = many_tiles(rt.alloc(), 6)?;
     for (held, most) in [(1, "1"), (2, "2"), (3, "3")] {
         let gate = Crowd::new(rt.alloc(), 0, held, true)?;
-        crowded(&rt, &bytes, &gate, 6, &words_of("4", most, DEFAULT))?;
+        crowded(&rt, &bytes, &gate, 6, 6, &words_of("4", most, DEFAULT))?;
         let gate = Crowd::new(rt.alloc(), 0, held, true)?;
-        crowded(&rt, &bytes, &gate, 6, &words_of("4", "64", most))?;
+        crowded(&rt, &bytes, &gate, 6, 6, &words_of("4", "64", most))?;
     }
+    Ok(())
+}
+
+// Two tiles of one block each, of which the second has segmentation symbols by its own COD.
+fn kept_behind(alloc: Global) -> Result<Vec<u8>, AllocError> {
+    let parts = [
+        0xFF, 0x90, 0, 10, 0, 0, 0, 0, 0, 17, 0, 1, 0xFF, 0x93, 0xC0, 0x21, 3, //
+        0xFF, 0x90, 0, 10, 0, 1, 0, 0, 0, 31, 0, 1, //
+        0xFF, 0x52, 0, 12, 0, 0, 0, 1, 0, 0, 4, 4, 0x20, 1, 0xFF, 0x93, 0xC0, 0x21, 1, 0xFF, 0xD9,
+    ];
+    spliced(alloc, &SMALL, &[(11, 1, &[2]), (65, 17, &parts)])
+}
+
+// The block of the second tile has the asked style already; and where no style is asked all are kept.
+#[test]
+fn kept_blocks_are_told_to_nobody(rt: HostRuntime) -> Result<(), Fail> {
+    let bytes = kept_behind(rt.alloc())?;
+    let gate = Crowd::new(rt.alloc(), 0, 0, false)?;
+    crowded(&rt, &bytes, &gate, 1, 1, &words_of("2", "64", DEFAULT))?;
+    equal(&rt, count_of(&gate.entered, 1), 0);
+    equal(&rt, count_of(&gate.left, 1), 0);
+    let none = Crowd::new(rt.alloc(), 0, 0, false)?;
+    let left = run_gated(&rt, &GOOD, &holding(&bytes), &none)?;
+    equal(&rt, left.report.status, Status::Done);
+    is_whole(&rt, &none, 0, 0);
+    equal(&rt, count_of(&none.entered, 0), 0);
     Ok(())
 }

@@ -23,6 +23,7 @@ const MANY: u64 = 1_000_000_000;
 /// block 0 until block 1 has entered, and nothing else.
 #[derive(Drop)]
 struct Holding {
+    /// How many blocks are told at the beginning: those that are coded anew.
     begun: AtomicU64,
     entered: [AtomicU64; 2],
     left: [AtomicU64; 2],

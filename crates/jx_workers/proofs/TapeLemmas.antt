@@ -16,6 +16,7 @@ use Rattle.jx_codeblock.specs.declared.job.Job.{Job}
 use Rattle.jx_codeblock.specs.Recoded.{WrittenBlock, recoding_in, is_bad}
 use Rattle.jx_codeblock.proofs.AnewLemmas.{bad_is}
 use Rattle.jx_workers.specs.Tapes.{AreAsked, IsJob, IsTape, IsTapeOf, answer_of, named_as, bounds, size_of}
+use Rattle.jx_workers.specs.Told.{is_anew}
 use Rattle.jx_workers.specs.Committed.{IsCommitted, IsRight}
 
 -- two lists that are the same by functions of their items, place by place
@@ -83,6 +84,12 @@ module _ (first : ℕ) (jobs : List Job) (k n : ℕ) (d : Job) where
   asked_at asked low high e =
       let number : first + (n - first) ≡ k = omega (arith, low, e) in
       subst (λ (m : ℕ). IsJob m (get_or jobs (n - first) d)) number (asked (n - first) (get_or jobs (n - first) d) (there low high e))
+
+  -- whether the gate is told of it
+  pub told_at : (j : Job) → n ≡ k → slice_get jobs (k - first) ≡ Some j → is_anew (get_or jobs (n - first) d) ≡ is_anew j
+  told_at j e at =
+      let here = subst (λ (m : ℕ). slice_get jobs (m - first) ≡ Some j) (sym e) at in
+      ap is_anew (get_or_from_slice_get jobs (n - first) j d here)
 
 module _ (first : ℕ) (jobs : List Job) (k n : ℕ) (d : Job) where
   -- what is committed for its job is of the number

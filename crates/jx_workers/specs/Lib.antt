@@ -1,4 +1,5 @@
 pub mod Tapes
+pub mod Told
 -- Inner: no other crate cites these.
 pub mod Workers
 pub mod Committed

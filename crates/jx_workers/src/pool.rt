@@ -25,8 +25,8 @@ pub struct Tape<'a> {
 
 /// Makes of each job's block what the job asks for, by `threads` workers, of which each takes the next job
 /// that none has. Of several blocks between claim and sequence there are at most `window`, and their
-/// pieces have at most `most` bytes; one alone may have more. The gate is told of each block before and
-/// after a worker has it in hand. The numbers of the jobs go from `first` on and end at 2^20; `threads` is
+/// pieces have at most `most` bytes; one alone may have more. The gate is told of each block that is coded
+/// anew, before a worker makes it and after that, before it is committed. The numbers of the jobs go from `first` on and end at 2^20; `threads` is
 /// 1 to 64, `window` 1 to 1,024 and `most` 1 to 2^28, and all pieces have at most 2^28 bytes.
 ///
 /// The tape says of each job what it asks for, or that it is bad: that it is to be coded anew, and one of

@@ -4,6 +4,7 @@ ghost use Rattle.jx_store.specs.declared.event.Taped.{Taped};
 ghost use Rattle.jx_store.specs.declared.work.Named.{Named};
 ghost use Rattle.jx_codeblock.specs.Recoded.{WrittenBlock, is_bad};
 ghost use Rattle.jx_workers.specs.Tapes.{AreAsked, IsJob};
+ghost use Rattle.jx_workers.specs.Told.{is_anew};
 ghost use Rattle.jx_workers.specs.Committed.{IsCommitted, IsRight};
 
 use crate::workers::Maker;
@@ -58,6 +59,13 @@ impl<'a> Maker<Recoded<'a>> for Recoder<'a> {
     ghost first = { λ r. r.first };
 
     ghost jobs = { λ r. r.jobs };
+
+    ghost told = { is_anew };
+
+    fn is_told(&self, claim: &Claim) -> bool {
+        let at = (claim.number() - self.first) as usize;
+        self.jobs[at].style.is_some()
+    }
 
     fn make(&self, claim: &Claim) -> Named<Recoded<'a>> {
         let place = (claim.number() - self.first) as usize;

@@ -1,5 +1,5 @@
 //! Workers over any values: each claims a number, makes its value and commits it, until all are claimed.
-ghost use Rattle.std.specs.Prelude.{◌≡◌, ℕ, List, ◌<◌, ◌≤◌, ◌+◌, ◌^◌, All, IfOk, Some, length, map, slice_get, vec_len};
+ghost use Rattle.std.specs.Prelude.{◌≡◌, ℕ, Bool, List, ◌<◌, ◌≤◌, ◌+◌, ◌-◌, ◌^◌, All, IfOk, Some, length, map, slice_get, vec_len};
 ghost use Rattle.std.specs.List.{sum};
 ghost use Rattle.jx_store.specs.declared.event.Taped.{Taped};
 ghost use Rattle.jx_store.specs.declared.work.Named.{Named};
@@ -24,6 +24,14 @@ pub(crate) trait Maker<V: Work> {
 
     /// The job of each number from the first on.
     ghost jobs: { Self → List V.Job };
+
+    /// Whether a gate is told of a job.
+    ghost told: { V.Job → Bool };
+
+    /// Whether a gate is told of the job under the number of a claim.
+    fn is_told(&self, claim: &Claim) -> bool
+        requires { (first self.now ≤ claim.now.number) × (claim.now.number < first self.now + length (jobs self.now)) }
+        ensures { (j : V.Job) → slice_get (jobs self.now) (claim.now.number - first self.now) ≡ Some j → result ≡ told j };
 
     /// The value under the number of a claim.
     fn make(&self, claim: &Claim) -> Named<V>
@@ -57,6 +65,21 @@ impl Limits {
     }
 }
 
+// The value under the number of a claim; where the gate is told of its job, before and after it is made.
+fn made<V: Work, G: Gate, M: Maker<V>>(maker: &M, gate: &G, claim: &Claim) -> Named<V>
+    requires { (M.first maker.now ≤ claim.now.number) × (claim.now.number < M.first maker.now + length (M.jobs maker.now)) }
+    ensures { IsOf V.number V.job V.bad (M.first maker.now) (M.jobs maker.now) claim.now.number result }
+{
+    if !maker.is_told(claim) {
+        return maker.make(claim);
+    }
+    let number = claim.number();
+    gate.enter(number);
+    let named = maker.make(claim);
+    gate.leave(number);
+    named
+}
+
 // Claims and commits until all are claimed.
 fn work<V: Work, N: Bounds<V::Job>, R: Wait, G: Gate, M: Maker<V>>(
     rt: &R,
@@ -72,10 +95,7 @@ fn work<V: Work, N: Bounds<V::Job>, R: Wait, G: Gate, M: Maker<V>>(
     for _ in rt.forever() {
         match store.claim(rt, pass) {
             ClaimAnswer::Claim(claim) => {
-                let number = claim.number();
-                gate.enter(number);
-                let named = maker.make(&claim);
-                gate.leave(number);
+                let named = made(maker, gate, &claim);
                 store.commit(rt, pass, claim, named);
             }
             ClaimAnswer::Full {
