@@ -12,3 +12,4 @@ mod PlanLemmas
 mod MeaningLemmas
 mod GeometryLemmas
 mod WholeLemmas
+mod LoopLemmas

@@ -126,3 +126,8 @@ no_place {X} p xs d none =
           let test : nat_lt n (length xs) ≡ false = grind (arith, nat_tests) in
           rw test refl
     ]
+
+pub place_by : {X : Type 0} (p : X → Bool) (xs : List X) (i : ℕ) (e d : X) → i < length xs → true ≡ p (slice_index_or xs i e) → ((k : ℕ) → k < i → p (slice_index_or xs k d) ≡ false) → Some i ≡ position p xs
+place_by {X} p xs i e d inside here before =
+    let same : slice_index_or xs i e ≡ slice_index_or xs i d = get_or_default xs i e d inside in
+    first_place p xs i d inside (ap p (sym same) ∙ sym here) before

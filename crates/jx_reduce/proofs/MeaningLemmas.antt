@@ -1,5 +1,5 @@
 -- What is left of a codestream means what is left of its meaning.
-use Rattle.std.proofs.Common.{◌≡◌, ◌∙◌, ℕ, ◌+◌, ◌-◌, ◌==◌, ◌&&◌, ◌≤◌, ◌<◌, ◌×◌, Bool, true, false, nat_le, List, refl, sym, ap, arith, Option, None, Some}
+use Rattle.std.proofs.Common.{◌≡◌, ◌∙◌, ℕ, ◌+◌, ◌-◌, ◌==◌, ◌&&◌, ◌≤◌, ◌<◌, Bool, true, false, nat_le, List, refl, sym, ap, arith, Option, None, Some}
 use Rattle.std.specs.List.{All, filter, find}
 use Rattle.std.specs.Option.{option_map}
 use Rattle.std.proofs.lemmas.Bool.{and_parts, eqb-true, le-leb}
@@ -70,3 +70,6 @@ meaning_left d s blocks clear stand =
       sample = λ p le. sample_same d s p blocks (omega (arith, le, levels p.tile p.comp, enough s stand d clear p.tile p.comp));
       above = λ p lt. sample_none d s p blocks (omega (arith, lt, levels p.tile p.comp));
     }
+
+pub meaning_as : (d : ℕ) (s o : Stream) (blocks others : List Block) → o ≡ stream_left d s → others ≡ blocks_left d s blocks → IsClear d s → HeadersStand s → IsLeft d (meaning_of s blocks) (meaning_of o others)
+meaning_as d s o blocks others e h clear stand = rw (e, h) (meaning_left d s blocks clear stand)

@@ -1,5 +1,5 @@
 -- The parameters that are left: d levels fewer, and each band's step and planes as they were.
-use Rattle.std.proofs.Common.{◌≡◌, ◌∙◌, ℕ, zero, suc, ◌+◌, ◌-◌, ◌*◌, ◌/◌, ◌^◌, ◌≤◌, ◌<◌, ◌×◌, List, [], ◌∷◌, map, take, length, get_or, slice_index, refl, sym, ap, subst, arith, Option, Some, None}
+use Rattle.std.proofs.Common.{◌≡◌, ◌∙◌, ℕ, zero, suc, ◌+◌, ◌-◌, ◌*◌, ◌/◌, ◌^◌, ◌≤◌, ◌<◌, List, [], ◌∷◌, map, take, length, get_or, slice_index, refl, sym, ap, subst, arith, Option, Some, None}
 use Rattle.std.specs.List.{All, slice_get, range_with_len}
 use Rattle.std.specs.Option.{option_map}
 use Rattle.std.proofs.lemmas.List.{get_or-map, get_or-take, length-map}

@@ -88,3 +88,7 @@ left_may d s blocks may none =
       blocks_are = left_are s blocks may.blocks_are d clear may.headers;
       sound = sound_left d s blocks may.sound;
     }
+
+-- the same of a stream and blocks that are equal to these
+pub may_of : (d : ℕ) (s o : Stream) (blocks others : List Block) → o ≡ stream_left d s → others ≡ blocks_left d s blocks → MayBePlanned s blocks → first_choice d s ≡ None → MayBePlanned o others
+may_of d s o blocks others e h may none = rw (e, h) (left_may d s blocks may none)

@@ -1,6 +1,6 @@
 -- One direction: a span that is scaled by two steps one after another, and a band of a span that was scaled before.
 use Rattle.std.proofs.Common.{◌≡◌, ℕ, ◌+◌, ◌-◌, ◌*◌, ◌^◌, ◌≤◌, ◌<◌, ◌⊎◌, inl, inr, ◌∙◌, ap, sym, refl, arith}
-use Rattle.std.proofs.Math.Nat.{le_antisymm, mul_assoc, mul_comm, mul-sub, one-le-mul}
+use Rattle.std.proofs.Math.Nat.{le_antisymm, mul_assoc, mul_comm, mul-sub, one-le-mul, zero-mul}
 use Rattle.std.proofs.lemmas.Bool.{cases_lt}
 use Rattle.std.proofs.lemmas.Nat.{pow-add, pow_pos}
 use Rattle.jx_base.specs.declared.names.Span.{Span}
@@ -43,9 +43,12 @@ ceil_less y m k h =
     let more : c ≤ n + m = ceil_least y k (n + m) h (omega (arith, times_more n m k)) in
     le_antisymm first (omega arith)
 
+pub zero_times : (n : ℕ) → 0 * n ≡ 0
+zero_times n = zero-mul n
+
 -- half a step of a level, where the level is there, or the band is the low one
 half_moved : (d level off : ℕ) → (off ≡ 0) ⊎ (1 ≤ level) → off * 2 ^ (level - 1) * 2 ^ d ≡ off * 2 ^ (level + d - 1)
-half_moved d level off (inl none) = rw none refl
+half_moved d level off (inl none) = rw none (ap (λ (n : ℕ). n * 2 ^ d) (zero_times (2 ^ (level - 1))) ∙ zero_times (2 ^ d) ∙ sym (zero_times (2 ^ (level + d - 1))))
 half_moved d level off (inr some) =
     let whole : level - 1 + d ≡ level + d - 1 = omega arith in
     mul_assoc off (2 ^ (level - 1)) (2 ^ d) ∙ ap (λ (n : ℕ). off * n) (sym (pow-add 2 (level - 1) d)) ∙ ap (λ (n : ℕ). off * 2 ^ n) whole

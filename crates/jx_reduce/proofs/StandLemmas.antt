@@ -33,12 +33,13 @@ use Rattle.jx_codestream.proofs.SegmentLemmas.{defaults_there}
 use Rattle.jx_plan.specs.Standing.{HeadersStand, IsHeaded}
 use Rattle.jx_reduce.specs.Reduction.{segment_left, shape_left, siz_left, size_left, stream_left, tile_left}
 use Rattle.jx_reduce.specs.Unreducible.{passes_byte}
+use Rattle.jx_reduce.proofs.SpanLemmas.{zero_times}
 use Rattle.jx_reduce.proofs.HeaderLemmas.{IsClear, has_slot_left, quant_of_left, shape_of_left, shift_of_left, slot_left}
 
 -- ---- SIZ
 some_factor : (x d : ℕ) → nat_lt 0 (x * 2 ^ d) ≡ nat_lt 0 x
 some_factor x d = elim (cases_eq x 0) [
-  | inl none ↦ rw none refl
+  | inl none ↦ rw none (ap (λ (n : ℕ). nat_lt 0 n) (zero_times (2 ^ d)))
   | inr some ↦
       let product : 1 ≤ x * 2 ^ d = one-le-mul (omega arith) (pow_pos d) in
       grind (arith, nat_tests)

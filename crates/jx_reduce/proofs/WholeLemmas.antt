@@ -41,7 +41,8 @@ few_bytes n levels h = grind (arith, nat_tests)
 shape_whole : (shape : Shape) → ShapeInRange shape → shape_left 0 shape ≡ shape
 shape_whole shape r =
     let bytes : take (shape.levels + 1) shape.precincts ≡ shape.precincts = take_all (shape.levels + 1) shape.precincts (few_bytes (length shape.precincts) shape.levels r.count) in
-    ap (λ (list : List ℕ). record shape { precincts = list }) bytes
+    let levels : shape.levels - 0 ≡ shape.levels = omega arith in
+    rw levels (ap (λ (list : List ℕ). record shape { precincts = list }) bytes)
 
 segment_whole : (comps : ℕ) (s : Segment) → InRange comps s → segment_left 0 s ≡ s
 segment_whole comps (segment.Cod cod) r = ap (λ (shape : Shape). segment.Cod (record cod { shape = shape })) (shape_whole cod.shape r.shape)

@@ -18,9 +18,9 @@ pub(crate) fn times(d: u8) -> u64
 }
 
 /// A factor of a component would pass 255.
-fn passes_byte(size: CompSize, d: u8) -> bool
+fn passes_byte(size: &CompSize, d: u8) -> bool
     requires { d ≤ 32 }
-    ensures { result ≡ passes_byte d size }
+    ensures { result ≡ passes_byte d size.now }
 {
     let times = times(d);
     u64::from(size.dx) * times > 255 || u64::from(size.dy) * times > 255
@@ -33,7 +33,7 @@ fn first_passing(sizes: &[CompSize], d: u8) -> Option<u32>
     ensures { result ≡ first_passing d sizes.now }
 {
     for comp in 0..sizes.len() {
-        if passes_byte(sizes[comp], d) {
+        if passes_byte(&sizes[comp], d) {
             return Some(comp as u32);
         }
     }

@@ -1,7 +1,9 @@
 //! A codestream without its highest resolutions.
 
 ghost use Rattle.std.specs.Prelude.{◌≡◌, ◌≤◌, Err, IfErr, IfOk, IfSome, None, OnOk};
+ghost use Rattle.jx_plan.specs.Meaning.{meaning_of};
 ghost use Rattle.jx_plan.specs.Plan.{MayBePlanned};
+ghost use Rattle.jx_reduce.specs.Left.{IsLeft};
 ghost use Rattle.jx_reduce.specs.Reduction.{blocks_left, stream_left};
 ghost use Rattle.jx_reduce.specs.Unreducible.{IsUnreducible, first_choice};
 
@@ -39,6 +41,9 @@ pub fn reduce<'a>(
     ensures free { OnOk result (first_choice d stream.now ≡ None) }
     ensures cause { IfErr result (IsUnreducible d stream.now) }
     ensures choice { IfSome (first_choice d stream.now) (λ e. result ≡ Err e) }
+    // What is left may be planned again, and means what is left of the meaning.
+    ensures planned { IfOk result (λ r. MayBePlanned r.0 r.1.items) }
+    ensures meaning { IfOk result (λ r. IsLeft d (meaning_of stream.now blocks.now) (meaning_of r.0 r.1.items)) }
 {
     check(stream, d)?;
     let left = headers_left(alloc, stream, d)?;
