@@ -1,26 +1,25 @@
 -- The code-blocks that are left are those of the stream that is left.
-use Rattle.std.proofs.Common.{◌≡◌, ◌∙◌, ℕ, ◌+◌, ◌-◌, ◌≤◌, ◌<◌, Bool, true, nat_le, List, length, map, refl, sym, ap, subst, arith, Option, None, Some}
+use Rattle.std.proofs.Common.{◌≡◌, ◌∙◌, ℕ, ◌+◌, ◌-◌, ◌≤◌, ◌<◌, Bool, nat_le, List, length, map, refl, sym, ap, subst, arith, Option, None, Some}
 use Rattle.std.specs.Prelude.{slice_get}
 use Rattle.std.specs.List.{All, filter}
 use Rattle.std.specs.Option.{option_map}
 use Rattle.std.proofs.lemmas.List.{length-map}
 use Rattle.std.proofs.lemmas.List.Elements.{All-filter, All-weaker}
-use Rattle.std.proofs.lemmas.Option.{slice_get-get_or, slice_get-map, slice_get_within}
+use Rattle.std.proofs.lemmas.Option.{slice_get-map, slice_get_within}
 use Rattle.jx_base.specs.declared.names.BlockName.{BlockName}
 use Rattle.jx_base.specs.declared.pieces.Block.{Block}
 use Rattle.jx_base.specs.Pieces.{PieceValue}
 use Rattle.jx_base.proofs.Lists.{all_at, all_from, same_gets}
 use Rattle.jx_geom.specs.declared.shape.Canvas.{Canvas}
 use Rattle.jx_geom.specs.declared.shape.CompShape.{CompShape}
-use Rattle.jx_geom.specs.Geometry.{no_shape, rect_of_tile, shape_of}
+use Rattle.jx_geom.specs.Geometry.{no_shape, shape_of}
 use Rattle.jx_geom.specs.Numbering.{IsBlock, block_number, blocks_of_all}
-use Rattle.jx_geom.specs.Rects.{block_rect, tile_rect}
+use Rattle.jx_geom.specs.Rects.{tile_rect}
 use Rattle.jx_geom.proofs.NumberLemmas.{block_number_taken}
-use Rattle.jx_codestream.specs.declared.Params.{Params}
 use Rattle.jx_codestream.specs.declared.Stream.{Stream}
-use Rattle.jx_codestream.specs.First.{canvas_of, tile_number}
-use Rattle.jx_codestream.specs.Params.{headers_at, params_of, planes_at}
-use Rattle.jx_codestream.specs.Shapes.{geometry, layers_of, shapes_of, style_of}
+use Rattle.jx_codestream.specs.First.{canvas_of}
+use Rattle.jx_codestream.specs.Params.{headers_at, params_of}
+use Rattle.jx_codestream.specs.Shapes.{geometry, shapes_of}
 use Rattle.jx_codestream.proofs.RangeLemmas.{shapes_at, shapes_length}
 use Rattle.jx_tile.specs.Totals.{block_total}
 use Rattle.jx_tier2_reader.specs.BlockOf.{AreBlocksOf, IsBlockOf, IsFoundOf}
@@ -33,7 +32,7 @@ use Rattle.jx_reduce.proofs.LeftNames.{is_low}
 use Rattle.jx_reduce.proofs.LevelLemmas.{IsLower, low_rect}
 use Rattle.jx_reduce.proofs.ListLemmas.{filter_map_of, filter_same}
 use Rattle.jx_reduce.proofs.NameLemmas.{all_long, name_at, names_of_all}
-use Rattle.jx_reduce.proofs.ParameterLemmas.{are_lower, layers_same, levels_left, planes_same, style_same}
+use Rattle.jx_reduce.proofs.ParameterLemmas.{are_lower, layers_same, planes_same, style_same}
 
 abbrev pub name_of : Block → BlockName
 name_of b = b.name

@@ -1,5 +1,5 @@
 -- Fewer resolutions have no more code-blocks and no more packets: limits 5 and 6 aren't passed.
-use Rattle.std.proofs.Common.{◌≡◌, ◌∙◌, ℕ, zero, suc, ◌+◌, ◌*◌, ◌^◌, ◌≤◌, ◌<◌, nat_lt, List, length, get_or, refl, sym, ap, arith, inl, inr, Option, None, Some}
+use Rattle.std.proofs.Common.{◌≡◌, ℕ, zero, suc, ◌+◌, ◌*◌, ◌^◌, ◌≤◌, ◌<◌, nat_lt, List, length, get_or, refl, ap, arith, inl, inr, Option, None, Some}
 use Rattle.std.specs.List.{filter}
 use Rattle.std.specs.Option.{option_or}
 use Rattle.std.proofs.Math.Nat.{mul-le-mul_right}
@@ -11,7 +11,7 @@ use Rattle.jx_base.specs.Joined.{sum_below}
 use Rattle.jx_base.proofs.Sums.{sum_below_more, whole_sum}
 use Rattle.jx_geom.specs.declared.shape.Canvas.{Canvas}
 use Rattle.jx_geom.specs.declared.shape.CompShape.{CompShape}
-use Rattle.jx_geom.specs.Counts.{component_precincts, precinct_count, tile_count, tile_precincts}
+use Rattle.jx_geom.specs.Counts.{component_precincts, precinct_count, tile_precincts}
 use Rattle.jx_geom.specs.Geometry.{no_shape}
 use Rattle.jx_geom.specs.Numbering.{blocks_of_all}
 use Rattle.jx_geom.specs.Rects.{tile_rect}
@@ -110,8 +110,12 @@ module _ (d : ℕ) (s : Stream) (clear : IsClear d s) (stand : HeadersStand s) w
 
   packets_less : packet_total (stream_left d s) ≤ packet_total s
   packets_less =
-      omega (arith, packets_now, packets_are s,
-      sums_less (λ t. tile_precincts (tile_rect (canvas_of s.siz) t) (shapes_of (stream_left d s) t) * layers_of (stream_left d s) t) (tile_packets s) (tile_number s.siz) (λ t lt. packets_less_at t))
+      omega (
+        arith,
+        packets_now,
+        packets_are s,
+        sums_less (λ t. tile_precincts (tile_rect (canvas_of s.siz) t) (shapes_of (stream_left d s) t) * layers_of (stream_left d s) t) (tile_packets s) (tile_number s.siz) (λ t lt. packets_less_at t),
+      )
 
   pub totals_left : totals_fault s ≡ None → totals_fault (stream_left d s) ≡ None
   unfolding totals_fault

@@ -1,5 +1,5 @@
 -- The geometry of a stream that is left, at each resolution that is left.
-use Rattle.std.proofs.Common.{◌≡◌, ◌∙◌, ℕ, ◌+◌, ◌-◌, ◌≤◌, ◌<◌, ◌↔◌, List, length, refl, sym, ap, subst, arith, None}
+use Rattle.std.proofs.Common.{◌≡◌, ◌∙◌, ℕ, ◌+◌, ◌<◌, ◌↔◌, List, length, refl, sym, ap, subst, arith, None}
 use Rattle.jx_base.specs.declared.names.Band.{Band}
 use Rattle.jx_base.specs.declared.names.Rect.{Rect}
 use Rattle.jx_base.specs.Places.{column_at, row_at, size_of}
@@ -17,7 +17,7 @@ use Rattle.jx_tile.specs.Covered.{IsWhole}
 use Rattle.jx_plan.specs.Standing.{HeadersStand}
 use Rattle.jx_reduce.specs.Reduction.{stream_left}
 use Rattle.jx_reduce.specs.Unreducible.{first_choice}
-use Rattle.jx_reduce.proofs.HeaderLemmas.{IsClear, is_clear}
+use Rattle.jx_reduce.proofs.HeaderLemmas.{is_clear}
 use Rattle.jx_reduce.proofs.LevelLemmas.{IsLower, low_band, low_blocks, low_column, low_leaves, low_part, low_precincts, low_rect, low_row}
 use Rattle.jx_reduce.proofs.LeftNames.{AreLower}
 use Rattle.jx_reduce.proofs.ParameterLemmas.{are_lower, layers_same, planes_same, step_same}

@@ -1,6 +1,6 @@
 -- What the headers that are left say: the same segments in the same slots, of which COD and COC have fewer levels.
-use Rattle.std.proofs.Common.{◌≡◌, ◌∙◌, ℕ, zero, suc, ◌+◌, ◌-◌, ◌*◌, ◌==◌, ◌≤◌, Bool, true, false, cond, nat_lt, List, [], ◌∷◌, ◌++◌, map, take, length, refl, sym, ap, arith, Option, Some, None, inl, inr}
-use Rattle.std.specs.List.{All, find, list_any, position, slice_get}
+use Rattle.std.proofs.Common.{◌≡◌, ◌∙◌, ℕ, zero, suc, ◌+◌, ◌-◌, ◌*◌, ◌==◌, ◌≤◌, Bool, true, false, cond, nat_lt, List, [], ◌∷◌, map, take, refl, sym, ap, arith, Option, Some, None, inl, inr}
+use Rattle.std.specs.List.{All, list_any, position, slice_get}
 use Rattle.std.specs.Option.{option_or, option_map}
 use Rattle.std.proofs.Math.Seq.{take-nil}
 use Rattle.std.proofs.lemmas.Bool.{cases_Bool}
@@ -12,7 +12,6 @@ use Rattle.jx_marker.specs.declared.CompSize.{CompSize}
 use Rattle.jx_marker.specs.declared.Segment.{Segment}
 use Rattle.jx_marker.specs.declared.Segment.TheVariants as segment
 use Rattle.jx_marker.specs.declared.Shape.{Shape}
-use Rattle.jx_marker.specs.declared.Quant.{Quant}
 use Rattle.jx_marker.specs.declared.Cod.{Cod}
 use Rattle.jx_codestream.specs.declared.Tile.{Tile}
 use Rattle.jx_codestream.specs.declared.Stream.{Stream}

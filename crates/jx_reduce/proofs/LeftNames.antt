@@ -1,5 +1,5 @@
 -- The names of the code-blocks of lower components are those of the resolutions that are left, in their order.
-use Rattle.std.proofs.Common.{◌≡◌, ℕ, ◌+◌, ◌-◌, ◌≤◌, ◌<◌, Bool, true, false, nat_le, List, [], ◌∷◌, ◌++◌, length, inl, inr, ◌∙◌, ap, sym, refl, arith}
+use Rattle.std.proofs.Common.{◌≡◌, ℕ, ◌+◌, ◌≤◌, ◌<◌, Bool, true, false, nat_le, List, [], ◌++◌, length, inl, inr, ◌∙◌, ap, sym, arith}
 use Rattle.std.proofs.Math.Path.{fun_ext}
 use Rattle.std.specs.List.{All, filter, flat_map}
 use Rattle.std.proofs.lemmas.Bool.{cases_lt, le-leb}
@@ -40,7 +40,7 @@ all_band P g c r b each = joined_all P (one_name g c r b) (size_of (blocks_in g 
 all_resolution : (P : BlockName → Type 0) (g : Geometry) (c r : ℕ) → ((b : Band) (i : ℕ) → P (named g c r b i)) → All P (names_of_resolution g c r)
 all_resolution P g c r each = elim (cases_lt 0 r) [
   | inl some ↦ rw (names_high g c r some) (All-append P (names_of_band g c r HL) (names_of_band g c r LH ++ names_of_band g c r HH) (all_band P g c r HL (each HL))
-    (All-append P (names_of_band g c r LH) (names_of_band g c r HH) (all_band P g c r LH (each LH)) (all_band P g c r HH (each HH))))
+      (All-append P (names_of_band g c r LH) (names_of_band g c r HH) (all_band P g c r LH (each LH)) (all_band P g c r HH (each HH))))
   | inr none ↦ let low : r ≡ 0 = omega arith in rw (names_low g c r low) (all_band P g c r LL (each LL))
 ]
 

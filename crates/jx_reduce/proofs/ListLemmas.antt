@@ -1,5 +1,5 @@
 -- Lists: the first place at which a test passes, what a filter keeps, and lists that are joined.
-use Rattle.std.proofs.Common.{◌≡◌, ℕ, zero, suc, ◌+◌, ◌-◌, ◌≤◌, ◌<◌, Bool, true, false, not, nat_lt, List, [], ◌∷◌, ◌++◌, length, map, inl, inr, ◌∙◌, ap, sym, refl, add-one, arith, slice_index_or, append-nil, Option, Some, None}
+use Rattle.std.proofs.Common.{◌≡◌, ℕ, zero, suc, ◌+◌, ◌-◌, ◌≤◌, ◌<◌, Bool, true, false, not, nat_lt, List, [], ◌∷◌, ◌++◌, length, map, inl, inr, ◌∙◌, ap, sym, refl, add-one, arith, slice_index_or, append-nil, Some, None}
 use Rattle.std.specs.List.{All, filter, find, position, position_or_len}
 use Rattle.std.proofs.lemmas.Bool.{cases_Bool, cases_eq, cases_lt}
 use Rattle.std.proofs.lemmas.Bool.Decides.{nat_tests}

@@ -1,17 +1,15 @@
 -- What is left of a codestream means what is left of its meaning.
-use Rattle.std.proofs.Common.{◌≡◌, ◌∙◌, ℕ, ◌+◌, ◌-◌, ◌==◌, ◌&&◌, ◌≤◌, ◌<◌, Bool, true, false, nat_le, List, refl, sym, ap, arith, Option, None, Some}
-use Rattle.std.specs.List.{All, filter, find}
+use Rattle.std.proofs.Common.{◌≡◌, ℕ, ◌+◌, ◌-◌, ◌==◌, ◌&&◌, ◌≤◌, ◌<◌, Bool, true, false, nat_le, List, refl, ap, arith, None}
 use Rattle.std.specs.Option.{option_map}
 use Rattle.std.proofs.lemmas.Bool.{and_parts, eqb-true, le-leb}
 use Rattle.std.proofs.lemmas.Bool.Decides.{nat_tests}
 use Rattle.jx_base.specs.declared.pieces.Block.{Block}
-use Rattle.jx_codestream.specs.declared.Params.{Params}
 use Rattle.jx_codestream.specs.declared.Stream.{Stream}
 use Rattle.jx_codestream.specs.Params.{headers_at, params_of}
-use Rattle.jx_plan.specs.Meaning.{Component, Meaning, Place, component_of, is_band, lies_in, meaning_of, sample_at, sample_in}
+use Rattle.jx_plan.specs.Meaning.{Component, Place, is_band, lies_in, meaning_of, sample_at, sample_in}
 use Rattle.jx_plan.specs.Standing.{HeadersStand}
 use Rattle.jx_progression.specs.Loops.{is_in}
-use Rattle.jx_reduce.specs.Left.{IsLeft, component_left}
+use Rattle.jx_reduce.specs.Left.{IsLeft}
 use Rattle.jx_reduce.specs.Reduction.{blocks_left, is_left, stream_left}
 use Rattle.jx_reduce.proofs.HeaderLemmas.{IsClear}
 use Rattle.jx_reduce.proofs.ListLemmas.{found_in, found_none}

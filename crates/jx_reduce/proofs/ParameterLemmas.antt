@@ -1,6 +1,5 @@
 -- The parameters that are left: d levels fewer, and each band's step and planes as they were.
-use Rattle.std.proofs.Common.{◌≡◌, ◌∙◌, ℕ, zero, suc, ◌+◌, ◌-◌, ◌*◌, ◌/◌, ◌^◌, ◌≤◌, ◌<◌, List, [], ◌∷◌, map, take, length, get_or, slice_index, refl, sym, ap, subst, arith, Option, Some, None}
-use Rattle.std.specs.List.{All, slice_get, range_with_len}
+use Rattle.std.proofs.Common.{◌≡◌, ◌∙◌, ℕ, suc, ◌+◌, ◌-◌, ◌/◌, ◌≤◌, ◌<◌, List, [], ◌∷◌, map, take, length, slice_index, refl, sym, ap, subst, arith, Option}
 use Rattle.std.specs.Option.{option_map}
 use Rattle.std.proofs.lemmas.List.{get_or-map, get_or-take, length-map}
 use Rattle.std.proofs.lemmas.List.FromFn.{get_or-map-range_with_len}
@@ -17,7 +16,7 @@ use Rattle.jx_geom.specs.Geometry.{ShapesInRange, no_shape}
 use Rattle.jx_codestream.specs.declared.Params.{Params}
 use Rattle.jx_codestream.specs.declared.Stream.{Stream}
 use Rattle.jx_codestream.specs.Params.{cod_of, cod_or, exponent_of, header_of, mantissa_of, number_of, params_by, params_from, params_of, planes_at, planes_by, planes_of, precinct_of, precincts_of, quant_of, quant_or, shape_at, shape_of, shape_or, shift_of, step_by, step_of}
-use Rattle.jx_codestream.specs.Shapes.{layers_of, no_size, shape_in, shapes_of, size_in, size_of, style_of}
+use Rattle.jx_codestream.specs.Shapes.{layers_of, no_size, shape_in, shapes_of, size_of, style_of}
 use Rattle.jx_codestream.proofs.RangeLemmas.{shapes_at, shapes_length}
 use Rattle.jx_codestream.proofs.ShapeLemmas.{shape_fits, siz_is}
 use Rattle.jx_plan.specs.Meaning.{component_of}

@@ -1,22 +1,20 @@
 -- What is left of a codestream may be planned again.
-use Rattle.std.proofs.Common.{◌≡◌, ◌∙◌, ℕ, ◌+◌, ◌-◌, ◌≤◌, ◌<◌, List, length, get_or, refl, sym, ap, subst, arith, None}
+use Rattle.std.proofs.Common.{◌≡◌, ◌∙◌, ℕ, ◌-◌, ◌≤◌, ◌<◌, List, length, get_or, sym, ap, subst, arith, None}
 use Rattle.std.specs.List.{All}
 use Rattle.std.proofs.lemmas.List.{get_or-map, length-map}
 use Rattle.std.proofs.lemmas.List.Elements.{All-filter, All-weaker}
-use Rattle.jx_base.specs.declared.names.Band.{Band}
 use Rattle.jx_base.specs.declared.pieces.Block.{Block}
 use Rattle.jx_base.specs.OrderNumbers.{IsOrderNumber}
 use Rattle.jx_base.specs.Sound.{IsSound}
 use Rattle.jx_marker.specs.declared.Progression.{Progression}
 use Rattle.jx_geom.specs.declared.shape.CompShape.{CompShape}
 use Rattle.jx_geom.specs.Geometry.{HasResolution, no_shape}
-use Rattle.jx_geom.specs.Ranges.{HasBand}
 use Rattle.jx_codestream.specs.declared.Tile.{Tile}
 use Rattle.jx_codestream.specs.declared.Stream.{Stream}
-use Rattle.jx_codestream.specs.First.{canvas_of, tile_number}
+use Rattle.jx_codestream.specs.First.{tile_number}
 use Rattle.jx_codestream.specs.InRange.{StreamInRange}
-use Rattle.jx_codestream.specs.Params.{headers_at, params_of, planes_at}
-use Rattle.jx_codestream.specs.Shapes.{geometry, layers_of, no_tile, shapes_of, style_of, tile_at}
+use Rattle.jx_codestream.specs.Params.{headers_at, params_of}
+use Rattle.jx_codestream.specs.Shapes.{geometry, no_tile, shapes_of, tile_at}
 use Rattle.jx_codestream.proofs.RangeLemmas.{shapes_at, shapes_length}
 use Rattle.jx_plan.specs.Plan.{MayBePlanned}
 use Rattle.jx_plan.specs.Standing.{HeadersStand}

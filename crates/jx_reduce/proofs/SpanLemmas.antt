@@ -1,7 +1,6 @@
 -- One direction: a span that is scaled by two steps one after another, and a band of a span that was scaled before.
 use Rattle.std.proofs.Common.{◌≡◌, ℕ, ◌+◌, ◌-◌, ◌*◌, ◌^◌, ◌≤◌, ◌<◌, ◌⊎◌, inl, inr, ◌∙◌, ap, sym, refl, arith}
 use Rattle.std.proofs.Math.Nat.{le_antisymm, mul_assoc, mul_comm, mul-sub, one-le-mul, zero-mul}
-use Rattle.std.proofs.lemmas.Bool.{cases_lt}
 use Rattle.std.proofs.lemmas.Nat.{pow-add, pow_pos}
 use Rattle.jx_base.specs.declared.names.Span.{Span}
 use Rattle.jx_base.specs.Numbers.{ceil_of}

@@ -1,15 +1,14 @@
 -- The headers that are left stand in a file: none of the rules 1 to 19 is violated, and none of the limits 3 and 4 is passed.
-use Rattle.std.proofs.Common.{◌≡◌, ◌∙◌, ℕ, zero, suc, ◌+◌, ◌-◌, ◌*◌, ◌/◌, ◌%◌, ◌^◌, ◌==◌, ◌≤◌, ◌<◌, ◌&&◌, ◌||◌, Bool, true, false, cond, nat_lt, nat_le, List, [], ◌∷◌, ◌++◌, map, take, drop, length, min, get_or, slice_index, refl, sym, ap, subst, arith, Option, Some, None, inl, inr}
+use Rattle.std.proofs.Common.{◌≡◌, ◌∙◌, ℕ, suc, ◌+◌, ◌-◌, ◌*◌, ◌/◌, ◌%◌, ◌^◌, ◌==◌, ◌≤◌, ◌<◌, ◌&&◌, ◌||◌, Bool, true, false, cond, nat_lt, List, [], ◌∷◌, ◌++◌, map, take, drop, length, min, get_or, slice_index, refl, sym, ap, subst, arith, Option, Some, None, inl, inr}
 use Rattle.std.specs.List.{All, find, flat_map, list_all, list_any, range_with_len}
 use Rattle.std.specs.Option.{option_map}
 use Rattle.std.proofs.Math.Nat.{one-le-mul}
-use Rattle.std.proofs.Math.Seq.{take-nil}
-use Rattle.std.proofs.lemmas.Bool.{and_parts, cases_Bool, cases_eq, or_parts}
+use Rattle.std.proofs.lemmas.Bool.{cases_eq, or_parts}
 use Rattle.std.proofs.lemmas.Bool.Decides.{nat_tests}
 use Rattle.std.proofs.lemmas.List.{length-map, length-take, map-append}
 use Rattle.std.proofs.lemmas.List.Folds.{list_any_none}
 use Rattle.std.proofs.lemmas.List.Elements.{All-append, All-head, All-map, All-nil, All-tail, All-take, All-weaker}
-use Rattle.std.proofs.lemmas.List.FromFn.{get_or-map-range_with_len, length-map-range_with_len, length-range_with_len}
+use Rattle.std.proofs.lemmas.List.FromFn.{get_or-map-range_with_len, length-map-range_with_len}
 use Rattle.std.proofs.lemmas.Nat.{pow_pos}
 use Rattle.jx_base.proofs.Lists.{All-flat, find_none, none_passes}
 use Rattle.jx_marker.specs.declared.CompSize.{CompSize}
@@ -19,14 +18,14 @@ use Rattle.jx_marker.specs.declared.Segment.TheVariants as segment
 use Rattle.jx_marker.specs.declared.Shape.{Shape}
 use Rattle.jx_marker.specs.declared.Quant.{Quant}
 use Rattle.jx_marker.specs.Rules.{comp_size_fits, has_zero_exponent}
-use Rattle.jx_marker.specs.Ranges.{AreBytes, CompSizeInRange, InRange, ShapeInRange, SizInRange}
+use Rattle.jx_marker.specs.Ranges.{CompSizeInRange, InRange, ShapeInRange, SizInRange}
 use Rattle.jx_codestream.specs.declared.headers.HeaderKind.{HeaderKind}
 use Rattle.jx_codestream.specs.declared.headers.HeaderKind.TheVariants.{Main, First, Later}
 use Rattle.jx_codestream.specs.declared.Tile.{Tile}
 use Rattle.jx_codestream.specs.declared.Stream.{Stream}
-use Rattle.jx_codestream.specs.Headers.{ends_header, has_slot, is_second, slot_of, stands_in}
+use Rattle.jx_codestream.specs.Headers.{ends_header, is_second, slot_of, stands_in}
 use Rattle.jx_codestream.specs.First.{lacks_default, tiles_fault}
-use Rattle.jx_codestream.specs.Params.{band_count, band_planes, exponent_of, has_too_few, header_has_too_few, header_planes, level_of, limit_4_of, not_one, planes_of, quant_of, shape_of, shift_of, tile_has_too_few, tile_planes}
+use Rattle.jx_codestream.specs.Params.{band_count, band_planes, exponent_of, has_too_few, limit_4_of, not_one, planes_of, quant_of, shape_of, shift_of, tile_has_too_few, tile_planes}
 use Rattle.jx_codestream.specs.Spells.{AreSegments, IsSegment}
 use Rattle.jx_codestream.proofs.PlaneLemmas.{all_planes}
 use Rattle.jx_codestream.proofs.SegmentLemmas.{defaults_there}

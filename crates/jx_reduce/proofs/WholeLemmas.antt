@@ -1,5 +1,5 @@
 -- Where no resolution is left out a codestream stays as it is, and nothing is in the way.
-use Rattle.std.proofs.Common.{◌≡◌, ◌∙◌, ℕ, ◌+◌, ◌-◌, ◌*◌, ◌^◌, ◌==◌, ◌≤◌, ◌<◌, ◌||◌, Bool, true, false, cond, nat_le, nat_lt, List, [], ◌∷◌, map, take, length, get_or, refl, sym, ap, arith, Option, None, Some}
+use Rattle.std.proofs.Common.{◌≡◌, ℕ, ◌+◌, ◌-◌, ◌*◌, ◌==◌, ◌≤◌, ◌<◌, ◌||◌, Bool, true, false, cond, nat_lt, List, [], ◌∷◌, map, take, length, get_or, refl, sym, ap, arith, Option, None, Some}
 use Rattle.std.specs.List.{All, list_any, position}
 use Rattle.std.specs.Option.{option_or}
 use Rattle.std.proofs.Math.Nat.{mul-one}

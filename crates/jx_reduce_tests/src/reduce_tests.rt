@@ -38,8 +38,7 @@ const FLAT: &str = "FF52 000C 00 00 0001 00 00 04 04 00 01";
 
 const DEEP: &str = "FF52 000C 00 00 0001 00 20 04 04 00 01";
 // Two levels, but one of component 0.
-const LOWER: &str =
-    "FF52 000C 00 00 0001 00 02 04 04 00 01 FF53 0009 00 00 01 04 04 00 01";
+const LOWER: &str = "FF52 000C 00 00 0001 00 02 04 04 00 01 FF53 0009 00 00 01 04 04 00 01";
 
 const BANDS: &str = "FF5C 000A 40 40 40 40 40 40 40 40";
 
@@ -54,9 +53,11 @@ const EMPTY: &str = "FF90 000A 0000 0000000F 00 01 FF93 00 FFD9";
 
 const PAIRED: &str = "FF90 000A 0000 00000010 00 01 FF93 00 00 FFD9";
 
-const FULL: &str = "FF90 000A 0000 0000002F 00 01 FF93 000000000000000000000000000000000000000000000000000000000000000000 FFD9";
+const FULL: &str =
+    "FF90 000A 0000 0000002F 00 01 FF93 000000000000000000000000000000000000000000000000000000000000000000 FFD9";
 
-const BOTH: &str = "FF90 000A 0000 00000011 00 01 FF93 00 00 00 FF90 000A 0001 0000001E 00 01 FF52 000C 00 00 0001 00 01 04 04 00 01 FF93 00 00 FFD9";
+const BOTH: &str =
+    "FF90 000A 0000 00000011 00 01 FF93 00 00 00 FF90 000A 0001 0000001E 00 01 FF52 000C 00 00 0001 00 01 04 04 00 01 FF93 00 00 FFD9";
 
 /// How many code-blocks are left, the factors of component 0, the levels of the main COD, how many precinct bytes it has, and the first
 /// and the last of them.
@@ -72,21 +73,102 @@ struct Row {
 }
 
 static ROWS: [Row; 15] = [
-    Row { parts: [ONE, COMP, TWO, BANDS, THREE], d: 0, want: Ok([7, 1, 1, 2, 0, 0, 0]) },
-    Row { parts: [ONE, COMP, TWO, BANDS, THREE], d: 1, want: Ok([4, 2, 2, 1, 0, 0, 0]) },
-    Row { parts: [ONE, COMP, TWO, BANDS, THREE], d: 2, want: Ok([1, 4, 4, 0, 0, 0, 0]) },
-    Row { parts: [ONE, COMP, TWO, BANDS, THREE], d: 3, want: Err(ReduceFault::Choice { number: 9, place: 0 }) },
-    Row { parts: [ONE, COMP, SIZED, BANDS, THREE], d: 1, want: Ok([4, 2, 2, 1, 2, 0x76, 0x87]) },
-    Row { parts: [ONE, WIDE, FLAT, BANDS, EMPTY], d: 1, want: Err(ReduceFault::Choice { number: 8, place: 0 }) },
-    Row { parts: [PAIR, HIGH, TWO, BANDS, SIX], d: 1, want: Ok([6, 2, 2, 1, 0, 0, 0]) },
-    Row { parts: [PAIR, HIGH, TWO, BANDS, SIX], d: 2, want: Err(ReduceFault::Choice { number: 8, place: 1 }) },
-    Row { parts: [PAIR, HIGH, TWO, BANDS, SIX], d: 3, want: Err(ReduceFault::Choice { number: 8, place: 1 }) },
-    Row { parts: [ONE, COMP, LOWER, BANDS, PAIRED], d: 1, want: Ok([1, 2, 2, 1, 0, 0, 0]) },
-    Row { parts: [ONE, COMP, LOWER, BANDS, PAIRED], d: 2, want: Err(ReduceFault::Choice { number: 9, place: 0 }) },
-    Row { parts: [TILES, COMP, TWO, BANDS, BOTH], d: 1, want: Ok([5, 2, 2, 1, 0, 0, 0]) },
-    Row { parts: [TILES, COMP, TWO, BANDS, BOTH], d: 2, want: Err(ReduceFault::Choice { number: 9, place: 1 }) },
-    Row { parts: [ONE, COMP, DEEP, DERIVED, FULL], d: 7, want: Ok([1, 128, 128, 25, 0, 0, 0]) },
-    Row { parts: [ONE, COMP, DEEP, DERIVED, FULL], d: 8, want: Err(ReduceFault::Choice { number: 8, place: 0 }) },
+    Row {
+        parts: [ONE, COMP, TWO, BANDS, THREE],
+        d: 0,
+        want: Ok([7, 1, 1, 2, 0, 0, 0]),
+    },
+    Row {
+        parts: [ONE, COMP, TWO, BANDS, THREE],
+        d: 1,
+        want: Ok([4, 2, 2, 1, 0, 0, 0]),
+    },
+    Row {
+        parts: [ONE, COMP, TWO, BANDS, THREE],
+        d: 2,
+        want: Ok([1, 4, 4, 0, 0, 0, 0]),
+    },
+    Row {
+        parts: [ONE, COMP, TWO, BANDS, THREE],
+        d: 3,
+        want: Err(ReduceFault::Choice {
+            number: 9,
+            place: 0,
+        }),
+    },
+    Row {
+        parts: [ONE, COMP, SIZED, BANDS, THREE],
+        d: 1,
+        want: Ok([4, 2, 2, 1, 2, 0x76, 0x87]),
+    },
+    Row {
+        parts: [ONE, WIDE, FLAT, BANDS, EMPTY],
+        d: 1,
+        want: Err(ReduceFault::Choice {
+            number: 8,
+            place: 0,
+        }),
+    },
+    Row {
+        parts: [PAIR, HIGH, TWO, BANDS, SIX],
+        d: 1,
+        want: Ok([6, 2, 2, 1, 0, 0, 0]),
+    },
+    Row {
+        parts: [PAIR, HIGH, TWO, BANDS, SIX],
+        d: 2,
+        want: Err(ReduceFault::Choice {
+            number: 8,
+            place: 1,
+        }),
+    },
+    Row {
+        parts: [PAIR, HIGH, TWO, BANDS, SIX],
+        d: 3,
+        want: Err(ReduceFault::Choice {
+            number: 8,
+            place: 1,
+        }),
+    },
+    Row {
+        parts: [ONE, COMP, LOWER, BANDS, PAIRED],
+        d: 1,
+        want: Ok([1, 2, 2, 1, 0, 0, 0]),
+    },
+    Row {
+        parts: [ONE, COMP, LOWER, BANDS, PAIRED],
+        d: 2,
+        want: Err(ReduceFault::Choice {
+            number: 9,
+            place: 0,
+        }),
+    },
+    Row {
+        parts: [TILES, COMP, TWO, BANDS, BOTH],
+        d: 1,
+        want: Ok([5, 2, 2, 1, 0, 0, 0]),
+    },
+    Row {
+        parts: [TILES, COMP, TWO, BANDS, BOTH],
+        d: 2,
+        want: Err(ReduceFault::Choice {
+            number: 9,
+            place: 1,
+        }),
+    },
+    Row {
+        parts: [ONE, COMP, DEEP, DERIVED, FULL],
+        d: 7,
+        want: Ok([1, 128, 128, 25, 0, 0, 0]),
+    },
+    Row {
+        parts: [ONE, COMP, DEEP, DERIVED, FULL],
+        d: 8,
+        want: Err(ReduceFault::Choice {
+            number: 8,
+            place: 0,
+        }),
+    },
 ];
 
 // One file of the parts, one behind another.
@@ -191,8 +273,20 @@ fn a_larger_picture(rt: HostRuntime) -> Result<(), Fail> {
         (0, Ok(2316)),
         (1, Ok(588)),
         (5, Ok(3)),
-        (6, Err(ReduceFault::Choice { number: 9, place: 0 })),
-        (8, Err(ReduceFault::Choice { number: 8, place: 0 })),
+        (
+            6,
+            Err(ReduceFault::Choice {
+                number: 9,
+                place: 0,
+            }),
+        ),
+        (
+            8,
+            Err(ReduceFault::Choice {
+                number: 8,
+                place: 0,
+            }),
+        ),
     ] {
         let found = match answer(rt.alloc(), &file, d) {
             Some(Ok(facts)) => Some(Ok(facts[0])),

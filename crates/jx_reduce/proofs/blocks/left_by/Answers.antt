@@ -1,4 +1,4 @@
-use Rattle.std.proofs.Common.{rules, ◌≡◌, ◌<◌, ◌≤◌, ◌∙◌, length, arith}
+use Rattle.std.proofs.Common.{rules, ◌≡◌, ◌<◌, ◌≤◌, ◌∙◌, length}
 use Rattle.jx_reduce.proofs.LoopLemmas.{left_ends, left_goes, none_left}
 use Rattle.jx_reduce.proofs.blocks.left_by.Goals as goal
 
@@ -13,7 +13,7 @@ loop-block-preserved c =
     record {
       view = c.in_ok-view-2.ensures;
       done = left_goes c.args.d c.args.stream.now c.loop-block.left.items c.put_left.new.left.items c.args.blocks.now c.loop-block.block-index c.block-item.result c.in_ok-view-2.view inside
-      c.block-item.is c.in_ok-view-2.ensures c.in_ok-put_left.ensures c.loop-block.invariant.done;
+          c.block-item.is c.in_ok-view-2.ensures c.in_ok-put_left.ensures c.loop-block.invariant.done;
     }
 
 pub returns : goal.returns
