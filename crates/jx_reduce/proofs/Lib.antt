@@ -1,0 +1,15 @@
+mod ListLemmas
+mod NameLemmas
+mod LeftNames
+mod SpanLemmas
+mod LevelLemmas
+mod HeaderLemmas
+mod StandLemmas
+mod ParameterLemmas
+mod CountLemmas
+mod BlockLemmas
+mod PlanLemmas
+mod MeaningLemmas
+mod GeometryLemmas
+mod WholeLemmas
+mod LoopLemmas
