@@ -17,6 +17,16 @@ abbrev pub size_words : ℕ → Text → Text
 size_words place value =
     codes "jx: --precincts " ++ (value ++ (codes " would change the size of code-blocks\n    in tile " ++ (decimal place ++ codes ", and with it the coded bytes: use keep, or\n    the input's own exponents where its precincts cut its code-blocks, and\n    elsewhere such as don't cut them (T.800 B.7; choice 2)\n")))
 
+-- what can be had at the first component and resolution at which sizes would be others: the exponents that the input has there
+unfoldable pub own_words : ℕ → ℕ → ℕ → ℕ → Text
+own_words comp res across down =
+    codes "resolution " ++ (decimal res ++ (codes "\n    of component " ++ (decimal comp ++ (codes ": use the input's own " ++ (decimal across ++ (codes "x" ++ (decimal down ++ codes " there, or keep for all;")))))))
+
+-- other sizes of code-blocks, with what can be had
+abbrev pub misfit_words : ℕ → Text → Text → Text
+misfit_words place own value =
+    codes "jx: --precincts " ++ (value ++ (codes " would change the size of code-blocks\n    in tile " ++ (decimal place ++ (codes ", and with it the coded bytes, first at " ++ (own ++ codes "\n    others fit where neither cuts a code-block (T.800 B.7; choice 2)\n")))))
+
 -- an exponent 0, in some header
 abbrev pub zero_words : Text → Text → Text
 zero_words header value =

@@ -3,7 +3,7 @@ use Rattle.std.specs.Prelude.{◌≡◌, ℕ, List, ◌++◌, codes, if◌then�
 use Rattle.std.specs.Fmt.{decimal}
 use Rattle.jx_messages.specs.declared.Refusal.{Refusal}
 use Rattle.jx_messages.specs.declared.Refusal.TheVariants as refusal
-use Rattle.jx_messages.specs.Choices.{choice_words, option_words}
+use Rattle.jx_messages.specs.Choices.{choice_words, misfit_words, option_words, own_words}
 use Rattle.jx_messages.specs.Limits.{LimitRow, limit_words}
 use Rattle.jx_messages.specs.Names.{name_in, value_in, writes_nowhere}
 use Rattle.jx_messages.specs.Rules.{RuleRow, rule_words}
@@ -40,6 +40,10 @@ limit_sentence number found input = limit_filled (limit_words number) number fou
 abbrev pub choice_sentence : ℕ → ℕ → List Text → Text
 choice_sentence number place words = choice_words number place (value_in words (option_words number))
 
+-- choice 2, with the exponents that the input has where it comes first
+abbrev pub misfit_sentence : ℕ → ℕ → ℕ → ℕ → ℕ → List Text → Text
+misfit_sentence place comp res across down words = misfit_words place (own_words comp res across down) (value_in words (option_words 2))
+
 -- a code-block that is damaged
 abbrev pub block_sentence : ℕ → Text → Text
 block_sentence number input =
@@ -63,6 +67,7 @@ IsExplained refusal.Words words text = EndsLine text
 IsExplained (refusal.Rule number place) words text = text ≡ rule_sentence number place (name_in words 0)
 IsExplained (refusal.Limit number found) words text = text ≡ limit_sentence number found (name_in words 0)
 IsExplained (refusal.Choice number place) words text = text ≡ choice_sentence number place words
+IsExplained (refusal.Misfit place comp res across down) words text = text ≡ misfit_sentence place comp res across down words
 IsExplained (refusal.Block number) words text = text ≡ block_sentence number (name_in words 0)
 IsExplained refusal.ReadFault words text = text ≡ read_sentence (name_in words 0)
 IsExplained refusal.WriteFault words text = text ≡ write_sentence words

@@ -1,6 +1,6 @@
 //! The choices in words, with what to ask instead.
 ghost use Rattle.std.specs.Prelude.{◌≡◌, IfOk, string_bytes};
-ghost use Rattle.jx_messages.specs.Choices.{causal_words, choice_words, crowded_words, cut_words, header_words, long_words, no_rule_words, option_words, size_words, zero_words};
+ghost use Rattle.jx_messages.specs.Choices.{causal_words, choice_words, crowded_words, cut_words, header_words, long_words, misfit_words, no_rule_words, option_words, own_words, size_words, zero_words};
 
 use std::alloc::{AllocError, Global};
 
@@ -20,6 +20,41 @@ fn size(alloc: Global, place: u32, list: &str) -> Result<String, AllocError>
     format!(in alloc;
         "jx: --precincts {list} would change the size of code-blocks\n    in tile {place}, and with it the coded bytes: use keep, or\n    the input's own exponents where its precincts cut its code-blocks, and\n    elsewhere such as don't cut them (T.800 B.7; choice 2)\n"
     )
+}
+
+/// What can be had at the first component and resolution at which sizes would be others.
+#[tactic(auto, unfolding(crate::specs::Choices::own_words))]
+fn own(alloc: Global, comp: u16, res: u8, across: u8, down: u8) -> Result<String, AllocError>
+    ensures { IfOk result (λ text. string_bytes text ≡ own_words comp res across down) }
+{
+    format!(in alloc;
+        "resolution {res}\n    of component {comp}: use the input's own {across}x{down} there, or keep for all;"
+    )
+}
+
+/// Precincts that would change the size of code-blocks, with what can be had.
+fn size_in(alloc: Global, place: u32, own: &str, list: &str) -> Result<String, AllocError>
+    ensures { IfOk result (λ text. string_bytes text ≡ misfit_words place own.now list.now) }
+{
+    format!(in alloc;
+        "jx: --precincts {list} would change the size of code-blocks\n    in tile {place}, and with it the coded bytes, first at {own}\n    others fit where neither cuts a code-block (T.800 B.7; choice 2)\n"
+    )
+}
+
+/// The same of the exponents that the input has at a resolution of a component.
+pub(crate) fn misfit_text(
+    alloc: Global,
+    place: u32,
+    comp: u16,
+    res: u8,
+    across: u8,
+    down: u8,
+    list: &str,
+) -> Result<String, AllocError>
+    ensures { IfOk result (λ text. string_bytes text ≡ misfit_words place (own_words comp res across down) list.now) }
+{
+    let own = own(alloc, comp, res, across, down)?;
+    size_in(alloc, place, own.as_str(), list)
 }
 
 /// Where a choice about headers stands.

@@ -46,6 +46,19 @@ pub enum Refusal {
         /// The code-block or the tile.
         place: u32,
     },
+    /// Precincts would change the size of a tile's code-blocks, first at a resolution of a component: choice 2, with what the input has there.
+    Misfit {
+        /// The tile.
+        place: u32,
+        /// The component, 0 to 16,383.
+        comp: u16,
+        /// The resolution, 0 to 32.
+        res: u8,
+        /// The exponent of the width of the input's precincts there, 0 to 15.
+        across: u8,
+        /// The exponent of their height, 0 to 15.
+        down: u8,
+    },
     /// A code-block that is to be coded anew is wrong.
     Block {
         /// Its number.

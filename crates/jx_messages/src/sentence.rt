@@ -3,11 +3,11 @@ ghost use Rattle.std.specs.Prelude.{◌≡◌, IfOk, map, string_bytes};
 ghost use Rattle.jx_messages.specs.Limits.{limit_row};
 ghost use Rattle.jx_messages.specs.Names.{name_in};
 ghost use Rattle.jx_messages.specs.Rules.{rule_row};
-ghost use Rattle.jx_messages.specs.Sentences.{IsExplained, block_sentence, choice_sentence, limit_filled, limit_front, limit_sentence, no_memory_sentence, read_sentence, rule_filled, rule_front, rule_sentence, write_sentence};
+ghost use Rattle.jx_messages.specs.Sentences.{IsExplained, block_sentence, choice_sentence, limit_filled, limit_front, limit_sentence, misfit_sentence, no_memory_sentence, read_sentence, rule_filled, rule_front, rule_sentence, write_sentence};
 ghost use Rattle.jx_messages.specs.Shown.{shown_all};
 
 use crate::Refusal;
-use crate::choices::{choice_text, option_of};
+use crate::choices::{choice_text, misfit_text, option_of};
 use crate::commands::words_text;
 use crate::limits::{LimitText, limit_text};
 use crate::rules::{RuleText, rule_text};
@@ -91,6 +91,22 @@ fn choice(alloc: Global, number: u8, place: u32, words: &[String]) -> Result<Str
     choice_text(alloc, number, place, asked(words, option_of(number)))
 }
 
+/// Precincts that can't be had, with what the input has at the first component and resolution where they can't.
+fn misfit(
+    alloc: Global,
+    place: u32,
+    comp: u16,
+    res: u8,
+    across: u8,
+    down: u8,
+    words: &[String],
+) -> Result<String, AllocError>
+    ensures { IfOk result (λ text. string_bytes text ≡ misfit_sentence place comp res across down (map string_bytes words.now)) }
+{
+    let list = asked(words, option_of(2));
+    misfit_text(alloc, place, comp, res, across, down, list)
+}
+
 /// A block that is damaged.
 fn block(alloc: Global, number: u32, words: &[String]) -> Result<String, AllocError>
     ensures { IfOk result (λ text. string_bytes text ≡ block_sentence number (name_in (map string_bytes words.now) 0)) }
@@ -136,6 +152,13 @@ fn explained(alloc: Global, refusal: Refusal, words: &[String]) -> Result<String
         Refusal::Rule { number, place } => rule(alloc, number, place, words),
         Refusal::Limit { number, found } => limit(alloc, number, found, words),
         Refusal::Choice { number, place } => choice(alloc, number, place, words),
+        Refusal::Misfit {
+            place,
+            comp,
+            res,
+            across,
+            down,
+        } => misfit(alloc, place, comp, res, across, down, words),
         Refusal::Block { number } => block(alloc, number, words),
         Refusal::ReadFault => read_fault(alloc, words),
         Refusal::WriteFault => write_fault(alloc, words),

@@ -21,12 +21,11 @@ use Rattle.jx_plan.specs.declared.faults.PlanFault.{PlanFault}
 use Rattle.jx_plan.specs.declared.faults.PlanFault.TheVariants as fault
 use Rattle.jx_layers.specs.Causal.{first_broken}
 use Rattle.jx_layers.specs.Rule.{Rule}
-use Rattle.jx_plan.specs.Fits.{Fits, IsUnfit, KeepsBlocks, first_zero}
+use Rattle.jx_plan.specs.Fits.{Fits, IsSameAt, IsUnfit, KeepsBlocks, first_zero}
 use Rattle.jx_plan.specs.Groups.{HasFewParts, HasManyParts, IsPartedAt, groups_of, most_parts}
 use Rattle.jx_plan.specs.Headers.{comp_written, with_layers}
 use Rattle.jx_plan.specs.Plan.{MayBePlanned, headers_with, most_packets}
 use Rattle.jx_plan.specs.Planned.{CanBePlannedBy, HasPlanCause, IsCrowded, MakesLayers, layers_of_rule}
-use Rattle.jx_plan.specs.Steps.{IsSameAt}
 use Rattle.jx_options.specs.Wanted.{MayBeWanted, Wanted}
 use Rattle.jx_plan.proofs.FitLemmas.{all_at, all_made}
 use Rattle.jx_plan.proofs.LayerLaws.{CrowdLaws}

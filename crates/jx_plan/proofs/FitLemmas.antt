@@ -1,5 +1,5 @@
 -- Whether precincts fit: what is known byte by byte, component by component and tile by tile.
-use Rattle.std.proofs.Common.{◌≡◌, ◌<◌, ◌≤◌, ◌+◌, ◌*◌, ◌==◌, ◌||◌, ◌∙◌, nat_eq, ap, sym, subst, refl, arith, ℕ, suc, not, Bool, true, false, List, [], ◌∷◌, drop, length, map, nat_lt, inl, inr, slice_index, slice_index_or, Option, None, Some, below_more}
+use Rattle.std.proofs.Common.{◌≡◌, ◌<◌, ◌≤◌, ◌+◌, ◌*◌, ◌==◌, ◌||◌, ◌∙◌, nat_eq, ap, sym, subst, refl, arith, ℕ, suc, not, Bool, true, false, List, [], ◌∷◌, drop, length, map, nat_lt, inl, inr, slice_index, slice_index_or, Option, None, Some, is_some, MatchOption, below_more}
 use Rattle.std.specs.List.{All, list_any, position, position_or_len, range_with_len}
 use Rattle.std.specs.Option.{option_or}
 use Rattle.std.specs.Bool.{Decides}
@@ -11,6 +11,7 @@ use Rattle.std.proofs.lemmas.List.FromFn.{get_or-map-range_with_len, length-map-
 use Rattle.std.proofs.lemmas.List.Sums.{prefix_len_passes, prefix_len_stops}
 use Rattle.jx_geom.specs.declared.shape.CompShape.{CompShape}
 use Rattle.jx_geom.specs.Geometry.{no_shape}
+use Rattle.jx_geom.specs.Ranges.{exponent_across, exponent_down}
 use Rattle.jx_geom.specs.Rects.{block_across, block_down}
 use Rattle.jx_geom.specs.Same.{AllSameBlocks, SameBlocks}
 use Rattle.jx_marker.specs.declared.Segment.{Segment}
@@ -26,10 +27,11 @@ use Rattle.jx_codestream.specs.Shapes.{comp_shape, no_tile, shapes_in, shapes_of
 use Rattle.jx_codestream.specs.Params.{headers_at}
 use Rattle.jx_codestream.specs.Tiles.{in_slot}
 use Rattle.jx_codestream.proofs.SegmentLemmas.{segments_fit}
-use Rattle.jx_plan.specs.Fits.{Fits, KeepsBlocks, has_zero, shape_has_zero, tile_has_zero}
+use Rattle.jx_plan.specs.declared.faults.Misfit.{Misfit}
+use Rattle.jx_plan.specs.Fits.{CompKeeps, Fits, IsChangedFrom, IsMisfitAt, IsMisfitIn, IsSameAt, KeepsBlocks, has_zero, shape_has_zero, tile_has_zero}
 use Rattle.jx_plan.specs.Headers.{bytes_for, comp_written, item_at}
 use Rattle.jx_plan.specs.Standing.{HeadersStand, IsHeaded}
-use Rattle.jx_plan.specs.Steps.{IsKnown, IsSameAt, is_coding}
+use Rattle.jx_plan.specs.Steps.{IsKnown, is_coding}
 use Rattle.jx_codestream.proofs.BareLemmas.{map_same}
 
 -- ---- bytes
@@ -115,9 +117,6 @@ map_long : (f : CompShape → CompShape) (xs : List CompShape) → length xs ≡
 map_long f [] = refl
 map_long f (x ∷ xs) = ap suc (map_long f xs)
 
-abbrev pub CompKeeps : Option (List ℕ) → CompShape → Type 0
-CompKeeps precincts s = SameBlocks s (comp_written precincts s)
-
 pub all_made : (precincts : Option (List ℕ)) (xs : List CompShape) → ((c : ℕ) → c < length xs → CompKeeps precincts (slice_index_or xs c no_shape)) → AllSameBlocks xs (map (comp_written precincts) xs)
 all_made precincts xs each = record {
   long = map_long (comp_written precincts) xs;
@@ -131,8 +130,15 @@ module _ (precincts : Option (List ℕ)) (xs : List CompShape) (n : ℕ) (d : Co
   at_none : slice_index_or xs n d ≡ slice_index_or xs n no_shape
   at_none = get_or_default xs n d no_shape inside
 
-  pub all_fail : (CompKeeps precincts (slice_index_or xs n d) → ⊥) → AllSameBlocks xs (map (comp_written precincts) xs) → ⊥
-  all_fail other all = other (subst (CompKeeps precincts) (sym at_none) (all_at precincts xs n all inside))
+  pub misfit_here : (m : Misfit) (r : ℕ) → m.comp ≡ n → m.res ≡ r → m.across ≡ exponent_across (slice_index_or xs n d) r → m.down ≡ exponent_down (slice_index_or xs n d) r
+      → IsChangedFrom precincts (slice_index_or xs n d) r → ((c : ℕ) → c < n → CompKeeps precincts (slice_index_or xs c no_shape)) → IsMisfitIn precincts xs m
+  misfit_here m r comp res across down changed before = record {
+    inside = rw comp inside;
+    lowest = rw comp before;
+    changed = rw (comp, res) (subst (λ (s : CompShape). IsChangedFrom precincts s r) at_none changed);
+    across = rw (comp, res) (across ∙ ap (λ (s : CompShape). exponent_across s r) at_none);
+    down = rw (comp, res) (down ∙ ap (λ (s : CompShape). exponent_down s r) at_none);
+  }
 
   pub all_next : CompKeeps precincts (slice_index_or xs n d) → ((c : ℕ) → c < n → CompKeeps precincts (slice_index_or xs c no_shape)) → (c : ℕ) → c < n + 1
       → CompKeeps precincts (slice_index_or xs c no_shape)
@@ -141,6 +147,19 @@ module _ (precincts : Option (List ℕ)) (xs : List CompShape) (n : ℕ) (d : Co
 pub all_done : (precincts : Option (List ℕ)) (xs : List CompShape) (n : ℕ) → length xs ≤ n → ((c : ℕ) → c < n → CompKeeps precincts (slice_index_or xs c no_shape))
     → AllSameBlocks xs (map (comp_written precincts) xs)
 all_done precincts xs n all each = all_made precincts xs (λ c inside. each c (omega (arith, inside, all)))
+
+-- ---- a tile keeps its blocks exactly where there is no misfit
+misfit_changes : (precincts : Option (List ℕ)) (xs : List CompShape) (m : Misfit) → IsMisfitIn precincts xs m → AllSameBlocks xs (map (comp_written precincts) xs) → ⊥
+misfit_changes precincts xs m is all =
+    let same : CompKeeps precincts (slice_index_or xs m.comp no_shape) = all_at precincts xs m.comp all is.inside in
+    is.changed.changed (same.across m.res is.changed.level, same.down m.res is.changed.level)
+
+pub keeps_where : (precincts : Option (List ℕ)) (s : Stream) (t : ℕ) (first : Option Misfit) (none : Bool) → is_some first ≡ not none → MatchOption first (KeepsBlocks precincts s t) (λ m. IsMisfitAt precincts s t m)
+    → Decides none (KeepsBlocks precincts s t)
+keeps_where precincts s t None true e keeps = (λ h. keeps, λ k. refl)
+keeps_where precincts s t None false e keeps = absurd (false_true e)
+keeps_where precincts s t (Some m) true e is = absurd (false_true (sym e))
+keeps_where precincts s t (Some m) false e is = (λ h. absurd (false_true h), λ k. absurd (misfit_changes precincts (shapes_of s t) m is k))
 
 -- ---- exponents that are compared
 module _ (s t : CompShape) (r a b d e : ℕ) (own_across : a ≡ block_across s r) (own_down : b ≡ block_down s r) (new_across : d ≡ block_across t r) (new_down : e ≡ block_down t r) where
@@ -216,7 +235,7 @@ none_zero : (comps : ℕ) (ss : List Segment) → All (InRange comps) ss → lis
 none_zero comps [] h = refl
 none_zero comps (s ∷ ss) h = rw (own_fits comps s (All-head (InRange comps) s ss h)) (none_zero comps ss (All-tail (InRange comps) s ss h))
 
-own_keeps : (xs : List CompShape) → AllSameBlocks xs (map (comp_written None) xs)
+pub own_keeps : (xs : List CompShape) → AllSameBlocks xs (map (comp_written None) xs)
 own_keeps xs = all_made None xs (λ c inside. record { step_across = refl; step_down = refl; levels = refl; across = λ r le. refl; down = λ r le. refl })
 
 pub kept_fits : (s : Stream) → HeadersStand s → Fits None s

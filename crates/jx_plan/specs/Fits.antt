@@ -1,7 +1,11 @@
 -- Whether a codestream can have the precincts that are asked (ITU-T T.800, A.6.1 and B.7).
-use Rattle.std.specs.Prelude.{◌≡◌, ◌⊎◌, ◌<◌, ℕ, Bool, false, List, drop, map, Option, None, Some, if◌then◌else◌}
+use Rattle.std.specs.Prelude.{◌≡◌, ◌⊎◌, ◌<◌, ◌≤◌, ℕ, Bool, false, List, drop, length, map, slice_index_or, Option, None, Some, if◌then◌else◌}
 use Rattle.std.specs.List.{list_any, position}
-use Rattle.jx_geom.specs.Same.{AllSameBlocks}
+use Rattle.jx_geom.specs.declared.shape.CompShape.{CompShape}
+use Rattle.jx_geom.specs.Geometry.{no_shape}
+use Rattle.jx_geom.specs.Ranges.{exponent_across, exponent_down}
+use Rattle.jx_geom.specs.Rects.{block_across, block_down}
+use Rattle.jx_geom.specs.Same.{AllSameBlocks, SameBlocks}
 use Rattle.jx_marker.specs.Rules.{has_zero_exponent}
 use Rattle.jx_marker.specs.declared.Segment.{Segment}
 use Rattle.jx_marker.specs.declared.Segment.TheVariants as segment
@@ -10,6 +14,7 @@ use Rattle.jx_codestream.specs.declared.Stream.{Stream}
 use Rattle.jx_codestream.specs.declared.Tile.{Tile}
 use Rattle.jx_codestream.specs.First.{tile_number}
 use Rattle.jx_codestream.specs.Shapes.{shapes_of}
+use Rattle.jx_plan.specs.declared.faults.Misfit.{Misfit}
 use Rattle.jx_plan.specs.declared.faults.PlanFault.{PlanFault}
 use Rattle.jx_plan.specs.declared.faults.PlanFault.TheVariants as fault
 use Rattle.jx_plan.specs.Headers.{comp_written, precincts_written}
@@ -34,6 +39,32 @@ first_zero precincts s = if list_any (has_zero precincts) s.main then Some 0 els
 -- a tile's components have the blocks with these precincts that they had before
 abbrev pub KeepsBlocks : Option (List ℕ) → Stream → ℕ → Type 0
 KeepsBlocks precincts s t = AllSameBlocks (shapes_of s t) (map (comp_written precincts) (shapes_of s t))
+
+-- a block has the same exponents at a resolution
+abbrev pub IsSameAt : CompShape → CompShape → ℕ → Type 0
+IsSameAt s t r = (block_across s r ≡ block_across t r) × (block_down s r ≡ block_down t r)
+
+-- the lowest resolution of a component at which a block would have other exponents with these precincts
+pub record IsChangedFrom (precincts : Option (List ℕ)) (s : CompShape) (r : ℕ) : Type 0 where
+  pub level : r ≤ s.levels
+  pub changed : IsSameAt s (comp_written precincts s) r → ⊥
+  pub lowest : (q : ℕ) → q < r → IsSameAt s (comp_written precincts s) q
+
+-- a component has the blocks with these precincts that it had before
+abbrev pub CompKeeps : Option (List ℕ) → CompShape → Type 0
+CompKeeps precincts s = SameBlocks s (comp_written precincts s)
+
+-- the lowest component that has not, its lowest such resolution, and the exponents of its own precincts there (Table A.21)
+pub record IsMisfitIn (precincts : Option (List ℕ)) (shapes : List CompShape) (m : Misfit) : Type 0 where
+  pub inside : m.comp < length shapes
+  pub lowest : (c : ℕ) → c < m.comp → CompKeeps precincts (slice_index_or shapes c no_shape)
+  pub changed : IsChangedFrom precincts (slice_index_or shapes m.comp no_shape) m.res
+  pub across : m.across ≡ exponent_across (slice_index_or shapes m.comp no_shape) m.res
+  pub down : m.down ≡ exponent_down (slice_index_or shapes m.comp no_shape) m.res
+
+-- the same of a tile
+abbrev pub IsMisfitAt : Option (List ℕ) → Stream → ℕ → Misfit → Type 0
+IsMisfitAt precincts s t m = IsMisfitIn precincts (shapes_of s t) m
 
 pub record Fits (precincts : Option (List ℕ)) (s : Stream) : Type 0 where
   -- choice 3

@@ -1,8 +1,6 @@
 -- What the steps of a plan answer, and what stands between them.
 use Rattle.std.specs.Prelude.{◌≡◌, ◌⊎◌, ◌≤◌, ℕ, Bool, true, false, List, Option, None, Some}
 use Rattle.std.specs.List.{list_any}
-use Rattle.jx_geom.specs.declared.shape.CompShape.{CompShape}
-use Rattle.jx_geom.specs.Rects.{block_across, block_down}
 use Rattle.jx_marker.specs.declared.Segment.{Segment}
 use Rattle.jx_marker.specs.declared.Segment.TheVariants as segment
 use Rattle.jx_codestream.specs.declared.Stream.{Stream}
@@ -16,10 +14,6 @@ use Rattle.jx_plan.specs.Fits.{KeepsBlocks}
 use Rattle.jx_plan.specs.Causes.{HasManyPartsAt, PassesPackets}
 use Rattle.jx_plan.specs.Plan.{headers_with, most_packets}
 use Rattle.jx_options.specs.Wanted.{Wanted}
-
--- a block has the same exponents at a resolution
-abbrev pub IsSameAt : CompShape → CompShape → ℕ → Type 0
-IsSameAt s t r = (block_across s r ≡ block_across t r) × (block_down s r ≡ block_down t r)
 
 -- COD or COC
 abbrev pub is_coding : Segment → Bool

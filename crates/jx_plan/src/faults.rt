@@ -21,6 +21,19 @@ pub enum PlanFault {
     NoMemory,
 }
 
+/// Where asked precincts would change the size of a tile's code-blocks first, and what the input has there (ITU-T T.800, Table A.21 and B.7).
+#[derive(Clone, Copy, Debug, PartialEq, Eq)]
+pub struct Misfit {
+    /// The component, 0 to 16,383.
+    pub comp: u16,
+    /// The resolution, 0 to 32.
+    pub res: u8,
+    /// The exponent of its precincts' width (PPx), 0 to 15.
+    pub across: u8,
+    /// The exponent of their height (PPy), 0 to 15.
+    pub down: u8,
+}
+
 impl From<NoMemory> for PlanFault {
     ghost from_gives = { λ _ e. e ≡ out_of_memory };
 

@@ -4,18 +4,19 @@ ghost use Rattle.std.specs.Prelude.{◌≡◌, ◌<◌, ◌≤◌, ◌-◌, ◌/
 ghost use Rattle.std.specs.List.{list_any, position, range_with_len};
 ghost use Rattle.std.specs.Bool.{Decides};
 ghost use Rattle.jx_geom.specs.Geometry.{ShapesInRange};
-ghost use Rattle.jx_geom.specs.Same.{AllSameBlocks, SameBlocks};
+ghost use Rattle.jx_geom.specs.Ranges.{exponent_across, exponent_down};
+ghost use Rattle.jx_geom.specs.Same.{AllSameBlocks};
 ghost use Rattle.jx_marker.specs.Rules.{has_zero_exponent};
 ghost use Rattle.jx_codestream.specs.First.{tile_number};
 ghost use Rattle.jx_codestream.specs.InRange.{StreamInRange};
 ghost use Rattle.jx_codestream.specs.Params.{precincts_of};
 ghost use Rattle.jx_options.specs.Choices.{bytes_in};
-ghost use Rattle.jx_plan.specs.Fits.{AreUnfit, Fits, IsChangedAt, KeepsBlocks, first_zero, has_zero, shape_has_zero, tile_has_zero};
+ghost use Rattle.jx_plan.specs.Fits.{AreUnfit, CompKeeps, Fits, IsChangedAt, IsChangedFrom, IsMisfitAt, IsMisfitIn, IsSameAt, KeepsBlocks, first_zero, has_zero, shape_has_zero, tile_has_zero};
 ghost use Rattle.jx_plan.specs.Headers.{bytes_for, comp_written, item_at};
 ghost use Rattle.jx_plan.specs.Standing.{HeadersStand};
-ghost use Rattle.jx_plan.specs.Steps.{IsKnown, IsSameAt, is_coding};
+ghost use Rattle.jx_plan.specs.Steps.{IsKnown, is_coding};
 
-use crate::PlanFault;
+use crate::{Misfit, PlanFault};
 use jx_base::NoMemory;
 use jx_codestream::{MainView, Stream, Tile};
 use jx_geom::CompShape;
@@ -146,33 +147,68 @@ fn keeps_at(shape: &CompShape, items: &[u8], res: u8) -> bool
     before.0 == after.0 && before.1 == after.1
 }
 
-/// A component keeps its blocks.
-fn comp_keeps(shape: &CompShape, items: &[u8]) -> bool
+/// The lowest resolution of a component at which a block would have other exponents.
+fn first_res(shape: &CompShape, items: &[u8]) -> Option<u8>
     requires { shape.now.levels ≤ 32 }
-    ensures { Decides result (SameBlocks shape.now (comp_written (Some items.now) shape.now)) }
+    ensures { MatchOption result (CompKeeps (Some items.now) shape.now) (λ res. IsChangedFrom (Some items.now) shape.now res) }
 {
     for res in 0..shape.levels + 1 {
         if !keeps_at(shape, items, res) {
-            return false;
+            return Some(res);
         }
     }
-    true
+    None
 }
 
-/// All components keep theirs.
-fn all_keep(shapes: &[CompShape], items: &[u8]) -> bool
-    requires { ShapesInRange shapes.now }
-    ensures { Decides result (AllSameBlocks shapes.now (map (comp_written (Some items.now)) shapes.now)) }
+/// What a component has at a resolution.
+fn misfit_at(shape: &CompShape, comp: u16, res: u8) -> Misfit
+    requires { res ≤ 32 }
+    ensures place { (result.comp ≡ comp) × (result.res ≡ res) }
+    ensures across { result.across ≡ exponent_across shape.now res }
+    ensures down { result.down ≡ exponent_down shape.now res }
+{
+    let sizes = shape.precincts[usize::from(res)];
+    Misfit {
+        comp,
+        res,
+        across: sizes % 16,
+        down: sizes / 16,
+    }
+}
+
+/// Where components would change their blocks first.
+fn misfit_in(shapes: &[CompShape], items: &[u8]) -> Option<Misfit>
+    requires few { length shapes.now ≤ 16384 }
+    requires range { ShapesInRange shapes.now }
+    ensures { MatchOption result (AllSameBlocks shapes.now (map (comp_written (Some items.now)) shapes.now)) (λ misfit. IsMisfitIn (Some items.now) shapes.now misfit) }
 {
     for comp in 0..shapes.len() {
-        if !comp_keeps(&shapes[comp], items) {
-            return false;
+        match first_res(&shapes[comp], items) {
+            Some(res) => return Some(misfit_at(&shapes[comp], comp as u16, res)),
+            None => {}
         }
     }
-    true
+    None
 }
 
-/// A tile's components keep theirs.
+/// Where the components of a tile would.
+fn tile_misfit(
+    alloc: Global,
+    stream: &Stream,
+    main: &MainView<'_>,
+    tile: u16,
+    items: &[u8],
+) -> Result<Option<Misfit>, NoMemory>
+    requires main { main.now ≡ record { siz = stream.now.siz; main = stream.now.main } }
+    requires range { StreamInRange stream.now }
+    requires tile { tile < tile_number stream.now.siz }
+    ensures { IfOk result (λ first. MatchOption first (KeepsBlocks (Some items.now) stream.now tile) (λ misfit. IsMisfitAt (Some items.now) stream.now tile misfit)) }
+{
+    let view = stream.tile_view(alloc, main, tile)?;
+    Ok(misfit_in(view.shapes(), items))
+}
+
+/// A tile's components keep their blocks.
 fn tile_keeps(
     alloc: Global,
     stream: &Stream,
@@ -185,8 +221,8 @@ fn tile_keeps(
     requires tile { tile < tile_number stream.now.siz }
     ensures { IfOk result (λ keeps. Decides keeps (KeepsBlocks (Some items.now) stream.now tile)) }
 {
-    let view = stream.tile_view(alloc, main, tile)?;
-    Ok(all_keep(view.shapes(), items))
+    let first = tile_misfit(alloc, stream, main, tile, items)?;
+    Ok(first.is_none())
 }
 
 /// A COD or COC is there.
@@ -288,5 +324,31 @@ pub fn check_precincts(
     match precincts.bytes() {
         Some(items) => check_items(alloc, stream, items),
         None => Ok(()),
+    }
+}
+
+/// Where the precincts that are asked would change the code-blocks of a tile: its lowest component, and the lowest resolution of that, at
+/// which a code-block's effective exponents would be others (B.7, equations B-17 and B-18), with the exponents of the input's own precincts
+/// there. None exactly where the tile keeps its code-blocks. Time follows the headers and the tile's components.
+///
+/// # Errors
+///
+/// `NoMemory` where memory is refused.
+pub fn first_misfit(
+    alloc: Global,
+    stream: &Stream,
+    tile: u16,
+    precincts: &PrecinctChoice,
+) -> Result<Option<Misfit>, NoMemory>
+    requires range { StreamInRange stream.now }
+    requires tile { tile < tile_number stream.now.siz }
+    ensures { IfOk result (λ first. MatchOption first (KeepsBlocks (bytes_in precincts.now) stream.now tile) (λ misfit. IsMisfitAt (bytes_in precincts.now) stream.now tile misfit)) }
+{
+    match precincts.bytes() {
+        Some(items) => {
+            let main = stream.main_view(alloc)?;
+            tile_misfit(alloc, stream, &main, tile, items)
+        }
+        None => Ok(None),
     }
 }

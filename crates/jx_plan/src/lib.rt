@@ -10,8 +10,8 @@ mod out_stream;
 mod parting;
 mod planning;
 
-pub use faults::PlanFault;
-pub use fitting::check_precincts;
+pub use faults::{Misfit, PlanFault};
+pub use fitting::{check_precincts, first_misfit};
 pub use out_stream::OutStream;
 pub use parting::{count_parts, part_end};
 pub use planning::{plan, plan_served};

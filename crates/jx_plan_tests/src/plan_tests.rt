@@ -1,7 +1,7 @@
 //! Rows of plans: what the program doesn't show of them, and planners that aren't the program's.
 
 use crate::checks::equal;
-use crate::planned::{Ask, AskStyle, Want, is_answered};
+use crate::planned::{Ask, AskStyle, Want, is_answered, misfit};
 use jx_base::Style;
 use jx_plan::PlanFault;
 use std::alloc::Global;
@@ -232,6 +232,34 @@ fn is_chosen(alloc: Global, row: &Row) -> Option<bool> {
 fn choices_without_a_rule(rt: HostRuntime) -> Result<(), Fail> {
     for row in &CHOICES {
         equal(&rt, is_chosen(rt.alloc(), row), Some(true));
+    }
+    Ok(())
+}
+
+// Two components of code-blocks of 64 by 64, of which the second has precincts of 16 by 32 in resolution 1.
+const OWN: &str = "
+    FF4F FF51 002C 0000 00000001 00000001 00000000 00000000 00000001 00000001 00000000 00000000 0002 070101 070101
+    FF52 000E 01 00 0001 00 01 04 04 00 01 66 77 FF53 000B 01 01 01 04 04 00 01 66 54 FF5C 0007 40 40 40 40 40
+    FF90 000A 0000 00000012 00 01 FF93 00000000
+    FFD9";
+
+// A file, a tile, precincts that are asked, and the component, the resolution and the exponents there that can be had.
+type Fit = (&'static str, u16, &'static [u8], Option<(u16, u8, u8, u8)>);
+
+static FITS: [Fit; 7] = [
+    (LEVELS, 0, &[0x66], None),
+    (LEVELS, 0, &[0x55], Some((0, 1, 15, 15))),
+    (LEVELS, 1, &[0x55], Some((0, 0, 15, 15))),
+    (OWN, 0, &[], Some((1, 1, 4, 5))),
+    (OWN, 0, &[0x66, 0x77], Some((1, 1, 4, 5))),
+    (OWN, 0, &[0x66, 0x54], Some((0, 1, 7, 7))),
+    (OWN, 0, &[0x65], Some((0, 0, 6, 6))),
+];
+
+#[test]
+fn own_exponents(rt: HostRuntime) -> Result<(), Fail> {
+    for (text, tile, bytes, want) in &FITS {
+        equal(&rt, misfit(rt.alloc(), text, *tile, bytes), Some(*want));
     }
     Ok(())
 }

@@ -3,6 +3,7 @@
 ghost use Rattle.std.specs.Prelude.{IfOk, IfSome};
 ghost use Rattle.jx_marker.specs.Ranges.{AreBytes};
 ghost use Rattle.jx_base.specs.OrderNumbers.{IsOrderNumber};
+ghost use Rattle.jx_codestream.specs.InRange.{StreamInRange};
 ghost use Rattle.jx_options.specs.Choices.{bytes_in, order_in};
 ghost use Rattle.jx_plan.specs.Plan.{MayBePlanned};
 ghost use Rattle.jx_options.specs.Wanted.{MayBeStyle, MayBeWanted};
@@ -13,7 +14,7 @@ use jx_codeblock::Job;
 use jx_codestream::{Stream, Tile, read_stream};
 use jx_layers::{CutLayers, KeepLayers, LayerPlanner, OneLayer, TableLayers};
 use jx_options::{Marks, Options, OrderChoice, PrecinctChoice};
-use jx_plan::{OutStream, PlanFault, plan, plan_served};
+use jx_plan::{OutStream, PlanFault, first_misfit, plan, plan_served};
 use jx_tier2_reader::gather;
 use std::alloc::{AllocError, Global};
 
@@ -282,4 +283,38 @@ fn is_answered_of(alloc: Global, file: &[u8], ask: &Ask, want: Want) -> Option<b
 pub(crate) fn is_answered(alloc: Global, text: &str, ask: &Ask, want: Want) -> Option<bool> {
     let file = bytes_of(alloc, text)?;
     is_answered_of(alloc, &file, ask, want)
+}
+
+/// A component, a resolution, and the two exponents of its precincts there.
+type Place = (u16, u8, u8, u8);
+
+fn misfit_of(
+    alloc: Global,
+    stream: &Stream,
+    tile: u16,
+    precincts: &PrecinctChoice,
+) -> Option<Option<Place>>
+    requires { StreamInRange stream.now }
+{
+    if tile >= stream.tile_count() {
+        return None;
+    }
+    match first_misfit(alloc, stream, tile, precincts) {
+        Ok(Some(own)) => Some(Some((own.comp, own.res, own.across, own.down))),
+        Ok(None) => Some(None),
+        Err(_) => None,
+    }
+}
+
+fn misfit_in(alloc: Global, file: &[u8], tile: u16, bytes: &[u8]) -> Option<Option<Place>> {
+    let read = input(alloc, file)?;
+    let precincts = list_of(alloc, bytes).ok()?;
+    misfit_of(alloc, &read.0, tile, &precincts)
+}
+
+/// Where precincts of these bytes would change the code-blocks of a tile first, of a file of these digits. None where the file is refused or has
+/// no such tile, or for want of memory.
+pub(crate) fn misfit(alloc: Global, text: &str, tile: u16, bytes: &[u8]) -> Option<Option<Place>> {
+    let file = bytes_of(alloc, text)?;
+    misfit_in(alloc, &file, tile, bytes)
 }
