@@ -3,6 +3,7 @@ mod ReadLemmas
 mod SaidLemmas
 mod JudgeLemmas
 mod SameLemmas
+mod SameVerdictLemmas
 mod KeptSameLemmas
 mod FiledLemmas
 mod TapeLemmas
