@@ -57,12 +57,12 @@ one_refusal laws input s t x y = elim (refusal input s x) [
 ]
 
 -- ---- the verdict of a codestream, with its place as the codestream has it
-record IsRaised (aim : Aim) (from : ℕ) (inner : List ℕ) (s : Status) : Type 0 where
-  own : Status
-  verdict : Verdict aim inner own
-  is : s ≡ raised from own
+pub record IsRaised (aim : Aim) (from : ℕ) (inner : List ℕ) (s : Status) : Type 0 where
+  pub own : Status
+  pub verdict : Verdict aim inner own
+  pub is : s ≡ raised from own
 
-lowered : (aim : Aim) (from : ℕ) (inner : List ℕ) (s : Status) → VerdictAt aim from inner s → IsRaised aim from inner s
+pub lowered : (aim : Aim) (from : ℕ) (inner : List ℕ) (s : Status) → VerdictAt aim from inner s → IsRaised aim from inner s
 lowered aim from inner status.Done v = record { own = status.Done; verdict = v; is = refl }
 lowered aim from inner status.Words v = absurd v
 lowered aim from inner (status.Unlike how) v = absurd v

@@ -4,6 +4,7 @@ mod SaidLemmas
 mod JudgeLemmas
 mod SameLemmas
 mod SameVerdictLemmas
+mod SomeSameLemmas
 mod KeptSameLemmas
 mod FiledLemmas
 mod TapeLemmas

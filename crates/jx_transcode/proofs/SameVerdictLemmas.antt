@@ -1,10 +1,11 @@
 -- Two files have at most one verdict.
-use Rattle.std.proofs.Common.{◌≡◌, ◌∙◌, ◌⊎◌, ◌≤◌, ◌<◌, ◌+◌, ℕ, List, length, None, inl, inr, refl, ap, sym, subst, arith}
+use Rattle.std.proofs.Common.{◌≡◌, ◌∙◌, ◌⊎◌, ◌≤◌, ◌<◌, ◌+◌, ℕ, List, [], length, None, inl, inr, refl, ap, sym, subst, arith}
 use Rattle.jx_base.specs.declared.pieces.Block.{Block}
 use Rattle.jx_codestream.specs.declared.faults.StreamFault.TheVariants as fault
 use Rattle.jx_codestream.specs.declared.Stream.{Stream}
 use Rattle.jx_jp2.specs.declared.Boxed.{Boxed}
 use Rattle.jx_jp2.specs.Codestream.{content}
+use Rattle.jx_options.specs.Names.{no_marks}
 use Rattle.jx_plan.specs.Meaning.{meaning_of}
 use Rattle.jx_same.specs.Items.{answer_of}
 use Rattle.jx_same.specs.declared.answer.Answer.{Answer}
@@ -12,7 +13,6 @@ use Rattle.jx_same.specs.declared.answer.Answer.TheVariants as answer
 use Rattle.jx_transcode.specs.Aims.{Aim}
 use Rattle.jx_transcode.specs.Jp2Run.{FileVerdict}
 use Rattle.jx_transcode.specs.Judged.{Passes, Violates}
-use Rattle.jx_transcode.specs.MakeRun.{wanted_made}
 use Rattle.jx_transcode.specs.Outcome.{most_bytes}
 use Rattle.jx_transcode.specs.Rewritten.{Reads}
 use Rattle.jx_transcode.specs.SameRun.{AreAnswered, BreaksLimit, BreaksRule, HasCodestream, IsAccepted, IsGoodInput, SameVerdict}
@@ -27,10 +27,10 @@ abbrev pub HasOneFile : Type 0
 HasOneFile = (aim : Aim) (input : List ℕ) (s t : Status) → FileVerdict aim input s → FileVerdict aim input t → s ≡ t
 
 -- a rule or a limit stands in the verdict of any aim
-any_aim : Aim
-any_aim = record { wanted = wanted_made; rule = λ facts. None }
+abbrev pub any_aim : Aim
+any_aim = record { wanted = record { order = None; precincts = None; style = None; layers = []; marks = no_marks }; rule = λ facts. None }
 
-inner_short : (input inner : List ℕ) (from : ℕ) → HasCodestream input from inner → length input ≤ most_bytes → length inner ≤ most_bytes
+pub inner_short : (input inner : List ℕ) (from : ℕ) → HasCodestream input from inner → length input ≤ most_bytes → length inner ≤ most_bytes
 inner_short input inner from (inl bare) short = rw bare.2 short
 inner_short input inner from (inr boxed) short = rw boxed.4 (content_short input boxed.1 short)
 

@@ -1,9 +1,10 @@
 use Rattle.jx_transcode.proofs.OneVerdictLemmas.{Laws}
 use Rattle.jx_transcode.proofs.SameVerdictLemmas.{one_of_two}
+use Rattle.jx_transcode.proofs.SomeSameLemmas.{some_of_two}
 use Rattle.jx_transcode.proofs.laws.same_has_one_verdict.Goals as goal
 
-pub returns : goal.returns
-returns c =
+pub returns-clause-one : goal.returns-clause-one
+returns-clause-one c =
     let laws : Laws = record {
       one_stream = c.one_stream.ensures;
       read = c.violated_or_spelled.ensures.never_both;
@@ -20,3 +21,6 @@ returns c =
       either = c.one_codestream.ensures.either;
       fault = c.one_codestream.ensures.fault;
     }) c.one_file_verdict.ensures
+
+pub returns-clause-some : goal.returns-clause-some
+returns-clause-some c = some_of_two c.some_file_verdict.ensures
