@@ -75,3 +75,7 @@ unfolding is_boxes is_same
 same_not_boxes words good =
     let named : names_boxes words ≡ true = (and_parts (names_boxes words) _ good).0 in
     rw (not_named (slice_index_or words 1 []) (codes "boxes") (codes "same") refl named) refl
+
+-- ---- two texts
+pub pair_is : (a b c d : Text) → a ≡ c → b ≡ d → ◌≡◌ {A = Pair} (record { first = a; second = b }) (record { first = c; second = d })
+pair_is a b c d e f = rw (e, f) refl
