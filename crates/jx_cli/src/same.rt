@@ -71,7 +71,11 @@ fn names_in(alloc: Global, words: &[String]) -> Result<Pair, WordsFault>
         Ok(matches) => matches,
         Err(fault) => return Err(fault),
     };
-    pair_of(alloc, text_of(&matches, "a", ""), text_of(&matches, "b", ""))
+    pair_of(
+        alloc,
+        text_of(&matches, "a", ""),
+        text_of(&matches, "b", ""),
+    )
 }
 
 /// Whether the second word is the command's name.

@@ -65,5 +65,5 @@ returns-clause-absent_too g c = λ absent. unfit_of_first c.deref.result.now c.i
 pub returns-clause-read_rose : goal.returns-clause-read_rose
 returns-clause-read_rose g c = λ rose. absurd (omega (arith, unrisen _ _ _ c.in-Ok.ensures.cause, rose))
 
-pub overflow_cast-count : goal.overflow_cast-count
-overflow_cast-count g c = omega (arith, planned_few c.in-Ok-accept.accepted.stream c.in-Ok-accept.accepted.blocks.items c.in-Ok-accept.ensures.may, ap (λ (bs : List Block). length bs) c.deref-blocks.ensures.value)
+pub overflow_cast-result : goal.overflow_cast-result
+overflow_cast-result g c = omega (arith, planned_few c.in-Ok-accept.accepted.stream c.in-Ok-accept.accepted.blocks.items c.in-Ok-accept.ensures.may, ap (λ (bs : List Block). length bs) c.deref-blocks.ensures.value)
