@@ -4,4 +4,5 @@ mod CommandWordLemmas
 mod GoodLemmas
 mod MadeLemmas
 mod MakeLemmas
+mod SameLemmas
 mod WantedLemmas

@@ -1,4 +1,4 @@
-//! The commands `transcode`, `make` and `boxes`, their words and their options.
+//! The commands `transcode`, `make`, `boxes` and `same`, their words and their options.
 
 ghost use Rattle.std.specs.Prelude.{◌≡◌, IfOk, false, map};
 ghost use Rattle.clap.specs.Words.{app_of, rule_of};
@@ -6,6 +6,7 @@ ghost use Rattle.jx_cli.specs.BoxesWords.{boxes};
 ghost use Rattle.jx_cli.specs.Command.{place_rule, transcode, with_options, with_places};
 ghost use Rattle.jx_cli.specs.CommandWords.{rule_by, with_words};
 ghost use Rattle.jx_cli.specs.MakeWords.{make};
+ghost use Rattle.jx_cli.specs.SameWords.{same};
 ghost use Rattle.jx_options.specs.Names.{default_of, is_flag, name_of};
 
 use clap::{Arg, ArgAction, Command};
@@ -113,4 +114,12 @@ pub(crate) fn boxes<'a>(alloc: Global) -> Result<Command<'a>, AllocError>
 {
     let command = Command::new(alloc, "boxes");
     with_words(alloc, command, &["in"])
+}
+
+/// The command `same`, of two words.
+pub(crate) fn same<'a>(alloc: Global) -> Result<Command<'a>, AllocError>
+    ensures { IfOk result (λ c. app_of c ≡ same) }
+{
+    let command = Command::new(alloc, "same");
+    with_words(alloc, command, &["a", "b"])
 }

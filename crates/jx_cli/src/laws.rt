@@ -5,6 +5,7 @@ ghost use Rattle.jx_options.specs.Wanted.{MayBeWanted};
 ghost use Rattle.jx_cli.specs.BoxesWords.{AsksBoxes, is_boxes};
 ghost use Rattle.jx_cli.specs.MakeFound.{AsksMake};
 ghost use Rattle.jx_cli.specs.MakeWords.{Make, MayBeMade, is_make, make_of};
+ghost use Rattle.jx_cli.specs.SameWords.{AsksSame, Pair, is_same};
 ghost use Rattle.jx_cli.specs.Words.{Asks, MayBeAsked, Request, Text, is_good, request_of};
 ghost use Rattle.jx_options.specs.Work.{MayBeWork};
 
@@ -33,9 +34,15 @@ pub fn boxes_have_words()
     ensures { (name : Text) → AsksBoxes name }
 {}
 
+/// Each two names are asked for by some good words of `same`.
+pub fn same_has_words()
+    ensures { (names : Pair) → AsksSame names }
+{}
+
 /// No words are good for two commands.
 pub fn commands_are_apart()
     ensures make { (words : List Text) → is_good words ≡ true → is_make words ≡ false }
     ensures boxes { (words : List Text) → is_good words ≡ true → is_boxes words ≡ false }
     ensures others { (words : List Text) → is_make words ≡ true → is_boxes words ≡ false }
+    ensures same { (words : List Text) → (is_good words ≡ true → is_same words ≡ false) × (is_make words ≡ true → is_same words ≡ false) × (is_boxes words ≡ true → is_same words ≡ false) }
 {}

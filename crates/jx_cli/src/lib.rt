@@ -1,4 +1,4 @@
-//! The words of the command lines `jx transcode`, `jx make` and `jx boxes`, read with clap.
+//! The words of the command lines `jx transcode`, `jx make`, `jx boxes` and `jx same`, read with clap.
 #![tactic(auto)]
 
 ghost use Rattle.std.specs.Prelude.{◌≡◌};
@@ -9,11 +9,13 @@ mod given;
 pub mod laws;
 mod make;
 mod reading;
+mod same;
 
 pub use boxes::read_boxes;
 use jx_options::{FormChoice, Options, Work};
 pub use make::{Make, read_make};
 pub use reading::read_words;
+pub use same::{Pair, read_same};
 use std::marker::Model;
 
 /// What good words ask for.

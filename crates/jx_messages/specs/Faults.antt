@@ -2,7 +2,7 @@
 use Rattle.std.specs.Prelude.{List, ◌++◌, codes, if◌then◌else◌}
 use Rattle.jx_io.specs.declared.fault.Step.{Step}
 use Rattle.jx_io.specs.declared.fault.Step.TheVariants as step
-use Rattle.jx_messages.specs.Names.{name_in, writes_nowhere}
+use Rattle.jx_messages.specs.Names.{inputs_in, name_in, writes_nowhere}
 use Rattle.jx_messages.specs.Text.{Text}
 
 -- a file with which something couldn't be done
@@ -35,8 +35,8 @@ line_words words cause =
 
 -- the sentence of each fault
 unfoldable pub fault_words : Step → Text → List Text → Text
-fault_words step.Open cause words = input_words (name_in words 0) (codes "opened") cause
-fault_words step.Read cause words = input_words (name_in words 0) (codes "read") cause
+fault_words step.Open cause words = input_words (inputs_in words) (codes "opened") cause
+fault_words step.Read cause words = input_words (inputs_in words) (codes "read") cause
 fault_words step.Create cause words = input_words (name_in words 1) (codes "created") cause
 fault_words step.Draft cause words = instead_words (name_in words 1) cause
 fault_words step.Mount cause words = instead_words (name_in words 1) (codes "it is a mount")

@@ -2,6 +2,7 @@ pub mod Help
 pub mod Text
 -- Inner: no other crate cites these.
 pub mod Choices
+pub mod Differences
 pub mod Faults
 pub mod Limits
 pub mod Names

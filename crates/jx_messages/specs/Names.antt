@@ -1,5 +1,5 @@
 -- The names, and the values of options, among the words of a command line.
-use Rattle.std.specs.Prelude.{ℕ, ◌==◌, nat_lt, Bool, true, false, not, ◌&&◌, ◌||◌, List, [], ◌∷◌, length, drop, slice_get, slice_index_or, Option, Some, None, is_some, unwrap_or, codes, if◌then◌else◌}
+use Rattle.std.specs.Prelude.{ℕ, ◌==◌, nat_lt, Bool, true, false, not, ◌&&◌, ◌||◌, List, [], ◌∷◌, ◌++◌, length, drop, slice_get, slice_index_or, Option, Some, None, is_some, unwrap_or, codes, if◌then◌else◌}
 use Rattle.std.specs.List.{list_any, position_or_len, before_first, after_first}
 use Rattle.std.specs.Str.{bytes_eq}
 use Rattle.jx_options.specs.declared.names.OptionName.{OptionName}
@@ -47,9 +47,17 @@ name_in words number =
 abbrev pub names_make : List Text → Bool
 names_make words = bytes_eq (slice_index_or words 1 []) (codes "make")
 
--- the command writes to standard output alone: it is `make` or `boxes`
+-- the command is `same`, which reads two files
+abbrev pub names_same : List Text → Bool
+names_same words = bytes_eq (slice_index_or words 1 []) (codes "same")
+
+-- the command writes to standard output alone: it is `make`, `boxes` or `same`
 abbrev pub writes_nowhere : List Text → Bool
-writes_nowhere words = names_make words || bytes_eq (slice_index_or words 1 []) (codes "boxes")
+writes_nowhere words = names_make words || (bytes_eq (slice_index_or words 1 []) (codes "boxes") || names_same words)
+
+-- the files that are read
+abbrev pub inputs_in : List Text → Text
+inputs_in words = if names_same words then name_in words 0 ++ (codes " or " ++ name_in words 1) else name_in words 0
 
 -- what stands behind the `=` of a word that begins with an option and `=`
 abbrev pub own_value : Text → Text → Option Text

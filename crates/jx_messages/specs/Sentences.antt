@@ -4,8 +4,9 @@ use Rattle.std.specs.Fmt.{decimal}
 use Rattle.jx_messages.specs.declared.Refusal.{Refusal}
 use Rattle.jx_messages.specs.declared.Refusal.TheVariants as refusal
 use Rattle.jx_messages.specs.Choices.{choice_words, misfit_words, option_words, own_words}
+use Rattle.jx_messages.specs.Differences.{differs_sentence}
 use Rattle.jx_messages.specs.Limits.{LimitRow, limit_words}
-use Rattle.jx_messages.specs.Names.{name_in, value_in, writes_nowhere}
+use Rattle.jx_messages.specs.Names.{inputs_in, name_in, value_in, writes_nowhere}
 use Rattle.jx_messages.specs.Rules.{RuleRow, rule_words}
 use Rattle.jx_messages.specs.Text.{EndsLine, Text}
 
@@ -69,6 +70,9 @@ IsExplained (refusal.Limit number found) words text = text ≡ limit_sentence nu
 IsExplained (refusal.Choice number place) words text = text ≡ choice_sentence number place words
 IsExplained (refusal.Misfit place comp res across down) words text = text ≡ misfit_sentence place comp res across down words
 IsExplained (refusal.Block number) words text = text ≡ block_sentence number (name_in words 0)
-IsExplained refusal.ReadFault words text = text ≡ read_sentence (name_in words 0)
+IsExplained (refusal.Differs spot) words text = text ≡ differs_sentence (name_in words 0) (name_in words 1) spot
+IsExplained (refusal.SecondRule number place) words text = text ≡ rule_sentence number place (name_in words 1)
+IsExplained (refusal.SecondLimit number found) words text = text ≡ limit_sentence number found (name_in words 1)
+IsExplained refusal.ReadFault words text = text ≡ read_sentence (inputs_in words)
 IsExplained refusal.WriteFault words text = text ≡ write_sentence words
 IsExplained refusal.NoMemory words text = text ≡ no_memory_sentence

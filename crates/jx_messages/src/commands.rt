@@ -62,10 +62,28 @@ says
     colr 62 15
   jp2c 77 3855";
 
+static SAME: &str = "Says whether two files have the same coefficients";
+
+static MEANING: &str = "\
+The line is same, or differs with the first value that does: its name, the
+tile, the component, the resolution, the band, the column and the row. Values
+are the picture's size and tiles, each component's depth and subsampling, its
+levels, wavelet, component transform and quantization, the steps of its bands,
+and each coefficient's sign, bits and decoded bit-planes; order, layers,
+precincts, styles and the sizes of code-blocks don't count. But where one file
+has a code-block that no packet includes, other sizes can make a difference.
+
+Example:
+  jx transcode in.j2k out.j2k --order rpcl --style terminate
+  jx same in.j2k out.j2k
+says
+  same";
+
 static USAGE: &str = "\
 Usage: jx transcode IN OUT [OPTIONS]
        jx make SEED WIDTH HEIGHT
        jx boxes IN
+       jx same A B
 
 jx --help says what they do, jx transcode --help all options.";
 
@@ -144,6 +162,14 @@ fn boxes<'a>(alloc: Global) -> Result<Command<'a>, AllocError> {
     with_place(alloc, command, "in", "IN", read)
 }
 
+/// The command `same`, with its help.
+fn same<'a>(alloc: Global) -> Result<Command<'a>, AllocError> {
+    let first = "a codestream or a JP2 file; - is standard input";
+    let command = Command::new(alloc, "same").about(SAME).after_help(MEANING);
+    let command = with_place(alloc, command, "a", "A", first)?;
+    with_place(alloc, command, "b", "B", "the one that is compared with it")
+}
+
 /// The program without its commands.
 fn bare<'a>(alloc: Global) -> Result<Command<'a>, AllocError> {
     // The name is the same whatever file the program lies in.
@@ -170,7 +196,8 @@ fn program<'a>(alloc: Global) -> Result<Command<'a>, AllocError> {
     let command = bare(alloc)?;
     let command = with_command(command, transcode(alloc))?;
     let command = with_command(command, make(alloc))?;
-    with_command(command, boxes(alloc))
+    let command = with_command(command, boxes(alloc))?;
+    with_command(command, same(alloc))
 }
 
 /// A text with one line feed at its end.

@@ -1,11 +1,11 @@
 //! Faults of files and of standard output in words, with the system's own.
 ghost use Rattle.std.specs.Prelude.{◌≡◌, IfOk, map, string_bytes};
 ghost use Rattle.jx_messages.specs.Faults.{fault_words, input_words, instead_words, line_words, name_words, older_words, output_words};
-ghost use Rattle.jx_messages.specs.Names.{name_in};
+ghost use Rattle.jx_messages.specs.Names.{inputs_in};
 ghost use Rattle.jx_messages.specs.Shown.{shown_all};
 
 use crate::shown::shown_words;
-use crate::words::{name_at, writes_nowhere};
+use crate::words::{inputs_of, name_at, writes_nowhere};
 use jx_io::Step;
 use std::alloc::{AllocError, Global};
 
@@ -14,6 +14,19 @@ fn input(alloc: Global, name: &str, done: &str, cause: &str) -> Result<String, A
     ensures { IfOk result (λ text. string_bytes text ≡ input_words name.now done.now cause.now) }
 {
     format!(in alloc; "jx: {name} could not be {done}: {cause}\n")
+}
+
+/// The same of the files that are read.
+fn inputs(
+    alloc: Global,
+    words: &[String],
+    done: &str,
+    cause: &str,
+) -> Result<String, AllocError>
+    ensures { IfOk result (λ text. string_bytes text ≡ input_words (inputs_in (map string_bytes words.now)) done.now cause.now) }
+{
+    let names = inputs_of(alloc, words)?;
+    input(alloc, names.as_str(), done, cause)
 }
 
 /// An output as which something couldn't be done, and the older one stands.
@@ -74,8 +87,8 @@ fn fault_text(
     ensures { IfOk result (λ text. string_bytes text ≡ fault_words step cause.now (map string_bytes words.now)) }
 {
     match step {
-        Step::Open => input(alloc, name_at(words, 0), "opened", cause),
-        Step::Read => input(alloc, name_at(words, 0), "read", cause),
+        Step::Open => inputs(alloc, words, "opened", cause),
+        Step::Read => inputs(alloc, words, "read", cause),
         Step::Create => input(alloc, name_at(words, 1), "created", cause),
         Step::Draft => instead(alloc, name_at(words, 1), cause),
         Step::Mount => instead(alloc, name_at(words, 1), "it is a mount"),

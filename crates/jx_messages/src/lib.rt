@@ -4,6 +4,7 @@
 
 mod choices;
 mod commands;
+mod differences;
 mod faults;
 mod forms;
 mod help;
@@ -18,6 +19,7 @@ mod words;
 pub use faults::explain_fault;
 pub use help::help_of;
 pub use notes::note_positions;
+use jx_same::Spot;
 pub use sentence::explain;
 
 /// Why a run was refused.
@@ -63,6 +65,22 @@ pub enum Refusal {
     Block {
         /// Its number.
         number: u32,
+    },
+    /// Two files aren't the same: the first value that differs.
+    Differs(Spot),
+    /// The second of two files violates a rule of the standard at a byte.
+    SecondRule {
+        /// The rule, 1 to 35.
+        number: u8,
+        /// The byte, counted from 0.
+        place: u64,
+    },
+    /// A limit is passed by the second of two files.
+    SecondLimit {
+        /// The limit, 1 to 6.
+        number: u8,
+        /// What was counted.
+        found: u128,
     },
     /// The input couldn't be opened or read.
     ReadFault,

@@ -1,7 +1,7 @@
 //! Why a run was refused, in a few lines.
 ghost use Rattle.std.specs.Prelude.{◌≡◌, IfOk, map, string_bytes};
 ghost use Rattle.jx_messages.specs.Limits.{limit_row};
-ghost use Rattle.jx_messages.specs.Names.{name_in};
+ghost use Rattle.jx_messages.specs.Names.{inputs_in, name_in};
 ghost use Rattle.jx_messages.specs.Rules.{rule_row};
 ghost use Rattle.jx_messages.specs.Sentences.{IsExplained, block_sentence, choice_sentence, limit_filled, limit_front, limit_sentence, misfit_sentence, no_memory_sentence, read_sentence, rule_filled, rule_front, rule_sentence, write_sentence};
 ghost use Rattle.jx_messages.specs.Shown.{shown_all};
@@ -9,10 +9,11 @@ ghost use Rattle.jx_messages.specs.Shown.{shown_all};
 use crate::Refusal;
 use crate::choices::{choice_text, misfit_text, option_of};
 use crate::commands::words_text;
+use crate::differences::differs_text;
 use crate::limits::{LimitText, limit_text};
 use crate::rules::{RuleText, rule_text};
 use crate::shown::shown_words;
-use crate::words::{asked, name_at, writes_nowhere};
+use crate::words::{asked, inputs_of, name_at, writes_nowhere};
 use std::alloc::{AllocError, Global};
 
 /// What stands at a byte of the input, and what is wrong with it.
@@ -45,11 +46,11 @@ fn rule_filled(
     format!(in alloc; "{front}    (T.800 {section}; rule {number})\n")
 }
 
-/// A rule that is violated.
-fn rule(alloc: Global, number: u8, place: u64, words: &[String]) -> Result<String, AllocError>
-    ensures { IfOk result (λ text. string_bytes text ≡ rule_sentence number place (name_in (map string_bytes words.now) 0)) }
+/// A rule that is violated by a file.
+fn rule(alloc: Global, number: u8, place: u64, input: &str) -> Result<String, AllocError>
+    ensures { IfOk result (λ text. string_bytes text ≡ rule_sentence number place input.now) }
 {
-    rule_filled(alloc, rule_text(number), number, place, name_at(words, 0))
+    rule_filled(alloc, rule_text(number), number, place, input)
 }
 
 /// What was counted in the input.
@@ -77,11 +78,11 @@ fn limit_filled(
     format!(in alloc; "{front}    and this program takes at most {most} (limit {number}){advice}\n")
 }
 
-/// A limit that is passed.
-fn limit(alloc: Global, number: u8, found: u128, words: &[String]) -> Result<String, AllocError>
-    ensures { IfOk result (λ text. string_bytes text ≡ limit_sentence number found (name_in (map string_bytes words.now) 0)) }
+/// A limit that is passed by a file.
+fn limit(alloc: Global, number: u8, found: u128, input: &str) -> Result<String, AllocError>
+    ensures { IfOk result (λ text. string_bytes text ≡ limit_sentence number found input.now) }
 {
-    limit_filled(alloc, limit_text(number), number, found, name_at(words, 0))
+    limit_filled(alloc, limit_text(number), number, found, input)
 }
 
 /// A choice that can't be had.
@@ -119,9 +120,9 @@ fn block(alloc: Global, number: u32, words: &[String]) -> Result<String, AllocEr
 
 /// An input that couldn't be opened or read.
 fn read_fault(alloc: Global, words: &[String]) -> Result<String, AllocError>
-    ensures { IfOk result (λ text. string_bytes text ≡ read_sentence (name_in (map string_bytes words.now) 0)) }
+    ensures { IfOk result (λ text. string_bytes text ≡ read_sentence (inputs_in (map string_bytes words.now))) }
 {
-    let input = name_at(words, 0);
+    let input = inputs_of(alloc, words)?;
     format!(in alloc;
         "jx: {input} could not be opened or read:\n    is it there, and may you read it?\n"
     )
@@ -149,8 +150,8 @@ fn explained(alloc: Global, refusal: Refusal, words: &[String]) -> Result<String
 {
     match refusal {
         Refusal::Words => words_text(alloc, words),
-        Refusal::Rule { number, place } => rule(alloc, number, place, words),
-        Refusal::Limit { number, found } => limit(alloc, number, found, words),
+        Refusal::Rule { number, place } => rule(alloc, number, place, name_at(words, 0)),
+        Refusal::Limit { number, found } => limit(alloc, number, found, name_at(words, 0)),
         Refusal::Choice { number, place } => choice(alloc, number, place, words),
         Refusal::Misfit {
             place,
@@ -160,6 +161,9 @@ fn explained(alloc: Global, refusal: Refusal, words: &[String]) -> Result<String
             down,
         } => misfit(alloc, place, comp, res, across, down, words),
         Refusal::Block { number } => block(alloc, number, words),
+        Refusal::Differs(spot) => differs_text(alloc, spot, name_at(words, 0), name_at(words, 1)),
+        Refusal::SecondRule { number, place } => rule(alloc, number, place, name_at(words, 1)),
+        Refusal::SecondLimit { number, found } => limit(alloc, number, found, name_at(words, 1)),
         Refusal::ReadFault => read_fault(alloc, words),
         Refusal::WriteFault => write_fault(alloc, words),
         Refusal::NoMemory => String::from_str(

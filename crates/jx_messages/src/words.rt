@@ -1,8 +1,9 @@
 //! What stands among the words of the command line.
-ghost use Rattle.std.specs.Prelude.{◌≡◌, drop, map, option_map, slice_get, string_bytes};
-ghost use Rattle.jx_messages.specs.Names.{has_value, is_flag_named, is_option, name_in, names, names_flag, names_make, own_value, stands_alone, takes_value, value_among, value_in, writes_nowhere};
+ghost use Rattle.std.specs.Prelude.{◌≡◌, IfOk, drop, map, option_map, slice_get, string_bytes};
+ghost use Rattle.jx_messages.specs.Names.{has_value, is_flag_named, inputs_in, is_option, name_in, names, names_flag, names_make, names_same, own_value, stands_alone, takes_value, value_among, value_in, writes_nowhere};
 
 use jx_options::OptionName;
+use std::alloc::{AllocError, Global};
 
 /// Whether an option has this name and stands alone.
 fn is_flag_named(option: OptionName, name: &[u8]) -> bool
@@ -97,6 +98,16 @@ pub(crate) fn names_make(words: &[String]) -> bool
     words[1].as_str() == "make"
 }
 
+/// Whether the command is `same`.
+fn names_same(words: &[String]) -> bool
+    ensures { result ≡ names_same (map string_bytes words.now) }
+{
+    if words.len() < 2 {
+        return false;
+    }
+    words[1].as_str() == "same"
+}
+
 /// Whether the command writes no file.
 pub(crate) fn writes_nowhere(words: &[String]) -> bool
     ensures { result ≡ writes_nowhere (map string_bytes words.now) }
@@ -104,7 +115,19 @@ pub(crate) fn writes_nowhere(words: &[String]) -> bool
     if words.len() < 2 {
         return false;
     }
-    names_make(words) || words[1].as_str() == "boxes"
+    names_make(words) || words[1].as_str() == "boxes" || names_same(words)
+}
+
+/// The files that are read.
+pub(crate) fn inputs_of(alloc: Global, words: &[String]) -> Result<String, AllocError>
+    ensures { IfOk result (λ text. string_bytes text ≡ inputs_in (map string_bytes words.now)) }
+{
+    let first = name_at(words, 0);
+    if !names_same(words) {
+        return String::from_str(alloc, first);
+    }
+    let second = name_at(words, 1);
+    format!(in alloc; "{first} or {second}")
 }
 
 /// The value of an option in a word `--name=value`.

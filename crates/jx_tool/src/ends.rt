@@ -6,6 +6,7 @@ ghost use Rattle.std.specs.IoError.{error_kind};
 ghost use Rattle.std.specs.Vec.Iter.{into_iter_items};
 ghost use Rattle.jx_plan.specs.Planned.{chosen};
 ghost use Rattle.jx_cli.specs.BoxesWords.{boxes_of, is_boxes};
+ghost use Rattle.jx_cli.specs.SameWords.{is_same, same_of};
 ghost use Rattle.jx_cli.specs.Words.{is_good, request_of};
 ghost use Rattle.jx_tool.specs.Ended.{IsEnded, IsHelped, IsEndedBySome, IsSaid, TellsUnsaid, words_in};
 
@@ -13,7 +14,7 @@ use jx_cli::{WordsFault, read_words};
 use jx_io::{Fault, Files, Progress, Refused, Sink, TellsFault, is_standard_output};
 use jx_layers::{CutLayers, KeepLayers, LayerPlanner, OneLayer, PlaneLayers};
 use jx_messages::{Refusal, explain, explain_fault, help_of, note_positions};
-use jx_transcode::{Status, run};
+use jx_transcode::{Status, Unlike, run};
 use std::alloc::{AllocError, Global};
 use std::env::Args;
 use std::io;
@@ -77,6 +78,13 @@ fn refusal_of(status: Status) -> Option<Refusal> {
         Status::Limit { number, found } => Some(Refusal::Limit { number, found }),
         Status::Choice { number, place } => Some(Refusal::Choice { number, place }),
         Status::Block { number } => Some(Refusal::Block { number }),
+        Status::Unlike(Unlike::Differs(spot)) => Some(Refusal::Differs(spot)),
+        Status::Unlike(Unlike::SecondRule { number, place }) => {
+            Some(Refusal::SecondRule { number, place })
+        }
+        Status::Unlike(Unlike::SecondLimit { number, found }) => {
+            Some(Refusal::SecondLimit { number, found })
+        }
         Status::ReadFault => Some(Refusal::ReadFault),
         Status::WriteFault => Some(Refusal::WriteFault),
         Status::NoMemory => Some(Refusal::NoMemory),
@@ -169,6 +177,8 @@ fn end_of<R: Threads + Wait + Sync + Eprint + Clock, F: Files + TellsFault, S: S
 ) -> ExitCode
     requires opens { is_good (words_in args) ≡ true → F.can_open files.old (request_of (words_in args)).from }
     requires lists { is_boxes (words_in args) ≡ true → F.can_open files.old (boxes_of (words_in args)) }
+    requires compares { is_same (words_in args) ≡ true
+        → F.can_open files.old (same_of (words_in args)).first × F.can_open files.old (same_of (words_in args)).second }
     requires creates { is_good (words_in args) ≡ true → F.can_create files.old (request_of (words_in args)).to }
     ensures { IsEnded (words_in args) (λ text facts. chosen (λ b. serves_text b text) (λ b. rule_of b text facts) planners.items) (exit_status result) (F.meaning files.old) (F.meaning files.new) (S.said say.old) (S.said say.new) (F.read_faults files.old) (F.read_faults files.new) (F.write_faults files.old) (F.write_faults files.new) (S.faults say.old) (S.faults say.new)
         ⊎ IsHelped (words_in args) (exit_status result) (F.meaning files.old) (F.meaning files.new) (S.said say.old) (S.said say.new) (F.read_faults files.old) (F.read_faults files.new) (F.write_faults files.old) (F.write_faults files.new) (S.faults say.old) (S.faults say.new) }
@@ -204,6 +214,8 @@ pub(crate) fn start<
 ) -> Result<ExitCode, AllocError>
     requires opens { is_good (words_in args) ≡ true → F.can_open files.old (request_of (words_in args)).from }
     requires lists { is_boxes (words_in args) ≡ true → F.can_open files.old (boxes_of (words_in args)) }
+    requires compares { is_same (words_in args) ≡ true
+        → F.can_open files.old (same_of (words_in args)).first × F.can_open files.old (same_of (words_in args)).second }
     requires creates { is_good (words_in args) ≡ true → F.can_create files.old (request_of (words_in args)).to }
     ensures ended { IfOk result (λ end. IsEndedBySome (words_in args) (exit_status end) (F.meaning files.old) (F.meaning files.new) (S.said say.old) (S.said say.new) (F.read_faults files.old) (F.read_faults files.new) (F.write_faults files.old) (F.write_faults files.new) (S.faults say.old) (S.faults say.new)
         ⊎ IsHelped (words_in args) (exit_status end) (F.meaning files.old) (F.meaning files.new) (S.said say.old) (S.said say.new) (F.read_faults files.old) (F.read_faults files.new) (F.write_faults files.old) (F.write_faults files.new) (S.faults say.old) (S.faults say.new)) }

@@ -67,6 +67,7 @@ end_apart s (inr (inr e)) = (λ f. let never : status.NoMemory ≡ status.ReadFa
 raised_verdict : (aim : Aim) (from : ℕ) (inner : List ℕ) (s : Status) → (IsVerdict s → Verdict aim inner s) → IsVerdict (raised from s) → VerdictAt aim from inner (raised from s)
 raised_verdict aim from inner status.Done of v = of tt
 raised_verdict aim from inner status.Words of v = of tt
+raised_verdict aim from inner (status.Unlike how) of v = of tt
 raised_verdict aim from inner (status.Rule number place) of v = (place, refl, of tt)
 raised_verdict aim from inner (status.Limit number found) of v = of tt
 raised_verdict aim from inner (status.Choice number place) of v = of tt
@@ -78,6 +79,7 @@ raised_verdict aim from inner status.NoMemory of v = absurd v
 raised_tells : (aim : Aim) (from : ℕ) (inner : List ℕ) (s : Status) (blocks : ℕ) (out : List ℕ) → TellsMade aim inner s blocks out → TellsMade aim inner (raised from s) blocks out
 raised_tells aim from inner status.Done blocks out is = is
 raised_tells aim from inner status.Words blocks out is = is
+raised_tells aim from inner (status.Unlike how) blocks out is = is
 raised_tells aim from inner (status.Rule number place) blocks out is = is
 raised_tells aim from inner (status.Limit number found) blocks out is = is
 raised_tells aim from inner (status.Choice number place) blocks out is = is
@@ -90,6 +92,7 @@ raised_tells aim from inner status.NoMemory blocks out is = is
 abbrev pub IsNoRule : Status → Type 0
 IsNoRule status.Done = Unit {0}
 IsNoRule status.Words = Unit {0}
+IsNoRule (status.Unlike how) = Unit {0}
 IsNoRule (status.Rule number place) = ⊥
 IsNoRule (status.Limit number found) = Unit {0}
 IsNoRule (status.Choice number place) = Unit {0}
@@ -104,6 +107,7 @@ rule_apart number place t other is = subst IsNoRule (sym is) other
 pub raised_apart : (from : ℕ) (s t : Status) → IsNoRule t → (s ≡ t → ⊥) → raised from s ≡ t → ⊥
 raised_apart from status.Done t other not is = not is
 raised_apart from status.Words t other not is = not is
+raised_apart from (status.Unlike how) t other not is = not is
 raised_apart from (status.Rule number place) t other not is = rule_apart number (from + place) t other is
 raised_apart from (status.Limit number found) t other not is = not is
 raised_apart from (status.Choice number place) t other not is = not is

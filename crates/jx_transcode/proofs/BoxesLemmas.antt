@@ -36,6 +36,7 @@ listed_to_say name read text old new front same is = record {
 pub unlisted_to_say : (name : Text) (read : List ℕ) (s : Status) (old new : Meaning) → IsFront (joined (old.holds name)) read → IsUntouched old new → IsUnlisted read s → IsToSay name s (line_of s 0 0) old new
 unlisted_to_say name read status.Done old new front same is = absurd is
 unlisted_to_say name read status.Words old new front same is = absurd is
+unlisted_to_say name read (status.Unlike how) old new front same is = absurd is
 unlisted_to_say name read (status.Rule number place) old new front same is = record {
   input = read;
   told = short_told (joined (old.holds name)) read front is.0;
@@ -137,6 +138,7 @@ listed_short name late fault_before fault_now files before now said =
 pub unlisted_unread : (read : List ℕ) (s : Status) → IsUnlisted read s → (s ≡ status.ReadFault → ⊥) × (s ≡ status.WriteFault → ⊥)
 unlisted_unread read status.Done is = absurd is
 unlisted_unread read status.Words is = absurd is
+unlisted_unread read (status.Unlike how) is = absurd is
 unlisted_unread read (status.Rule number place) is = (λ e. cc, λ e. cc)
 unlisted_unread read (status.Limit number found) is = (λ e. cc, λ e. cc)
 unlisted_unread read (status.Choice number place) is = absurd is

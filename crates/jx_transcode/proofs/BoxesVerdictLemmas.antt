@@ -35,6 +35,7 @@ module _ (laws : OneTree) (input : List ℕ) where
   one_of_boxes status.Done (status.Rule n p) x y = absurd (done_and_rule n p x y.1)
   one_of_boxes status.Done (status.Limit n p) x y = absurd (omega (arith, x.0, y.0))
   one_of_boxes status.Done status.Words x y = absurd y
+  one_of_boxes status.Done (status.Unlike how) x y = absurd y
   one_of_boxes status.Done (status.Choice n p) x y = absurd y
   one_of_boxes status.Done (status.Block n) x y = absurd y
   one_of_boxes status.Done status.ReadFault x y = absurd y
@@ -44,6 +45,7 @@ module _ (laws : OneTree) (input : List ℕ) where
   one_of_boxes (status.Rule n p) (status.Rule k q) x y = same_rule n p k q x.1 y.1
   one_of_boxes (status.Rule n p) (status.Limit k q) x y = absurd (omega (arith, x.0, y.0))
   one_of_boxes (status.Rule n p) status.Words x y = absurd y
+  one_of_boxes (status.Rule n p) (status.Unlike how) x y = absurd y
   one_of_boxes (status.Rule n p) (status.Choice k q) x y = absurd y
   one_of_boxes (status.Rule n p) (status.Block k) x y = absurd y
   one_of_boxes (status.Rule n p) status.ReadFault x y = absurd y
@@ -53,12 +55,14 @@ module _ (laws : OneTree) (input : List ℕ) where
   one_of_boxes (status.Limit n p) (status.Rule k q) x y = absurd (omega (arith, x.0, y.0))
   one_of_boxes (status.Limit n p) (status.Limit k q) x y = rw (x.1, x.2, y.1, y.2) refl
   one_of_boxes (status.Limit n p) status.Words x y = absurd y
+  one_of_boxes (status.Limit n p) (status.Unlike how) x y = absurd y
   one_of_boxes (status.Limit n p) (status.Choice k q) x y = absurd y
   one_of_boxes (status.Limit n p) (status.Block k) x y = absurd y
   one_of_boxes (status.Limit n p) status.ReadFault x y = absurd y
   one_of_boxes (status.Limit n p) status.WriteFault x y = absurd y
   one_of_boxes (status.Limit n p) status.NoMemory x y = absurd y
   one_of_boxes status.Words t x y = absurd x
+  one_of_boxes (status.Unlike how) t x y = absurd x
   one_of_boxes (status.Choice n p) t x y = absurd x
   one_of_boxes (status.Block n) t x y = absurd x
   one_of_boxes status.ReadFault t x y = absurd x

@@ -6,6 +6,7 @@ use Rattle.jx_transcode.specs.declared.status.Status.TheVariants as status
 abbrev pub IsOther : Status → Type 0
 IsOther status.Done = ⊥
 IsOther status.Words = Unit {0}
+IsOther (status.Unlike how) = Unit {0}
 IsOther (status.Rule number place) = Unit {0}
 IsOther (status.Limit number found) = Unit {0}
 IsOther (status.Choice number place) = Unit {0}

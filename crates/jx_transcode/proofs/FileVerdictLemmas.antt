@@ -33,6 +33,7 @@ record IsRule (input : List ℕ) (s : Status) : Type 0 where
 refusal : (input : List ℕ) (s : Status) → RefusesBoxes input s → ((most_bytes < length input) × (s ≡ status.Limit 1 (most_bytes + 1))) ⊎ IsRule input s
 refusal input status.Done r = absurd r
 refusal input status.Words r = absurd r
+refusal input (status.Unlike how) r = absurd r
 refusal input (status.Rule number place) r = inr (record { number = number; place = place; within = r.0; broken = r.1; is = refl })
 refusal input (status.Limit number found) r = inl (r.0, rw (r.1, r.2) refl)
 refusal input (status.Choice number place) r = absurd r
@@ -56,14 +57,15 @@ one_refusal laws input s t x y = elim (refusal input s x) [
 ]
 
 -- ---- the verdict of a codestream, with its place as the codestream has it
-record IsRaised (aim : Aim) (from : ℕ) (inner : List ℕ) (s : Status) : Type 0 where
-  own : Status
-  verdict : Verdict aim inner own
-  is : s ≡ raised from own
+pub record IsRaised (aim : Aim) (from : ℕ) (inner : List ℕ) (s : Status) : Type 0 where
+  pub own : Status
+  pub verdict : Verdict aim inner own
+  pub is : s ≡ raised from own
 
-lowered : (aim : Aim) (from : ℕ) (inner : List ℕ) (s : Status) → VerdictAt aim from inner s → IsRaised aim from inner s
+pub lowered : (aim : Aim) (from : ℕ) (inner : List ℕ) (s : Status) → VerdictAt aim from inner s → IsRaised aim from inner s
 lowered aim from inner status.Done v = record { own = status.Done; verdict = v; is = refl }
 lowered aim from inner status.Words v = absurd v
+lowered aim from inner (status.Unlike how) v = absurd v
 lowered aim from inner (status.Rule number place) v = record { own = status.Rule number v.0; verdict = v.2; is = rw v.1 refl }
 lowered aim from inner (status.Limit number found) v = record { own = (status.Limit number found); verdict = v; is = refl }
 lowered aim from inner (status.Choice number place) v = record { own = (status.Choice number place); verdict = v; is = refl }
@@ -106,6 +108,7 @@ SomeCodestream = (bytes : List ℕ) → ((boxed : Boxed) × IsCodestream bytes b
 raised_at : (aim : Aim) (from : ℕ) (inner : List ℕ) (s : Status) → Verdict aim inner s → VerdictAt aim from inner (raised from s)
 raised_at aim from inner status.Done v = v
 raised_at aim from inner status.Words v = absurd v
+raised_at aim from inner (status.Unlike how) v = absurd v
 raised_at aim from inner (status.Rule number place) v = (place, refl, v)
 raised_at aim from inner (status.Limit number found) v = v
 raised_at aim from inner (status.Choice number place) v = v

@@ -37,6 +37,7 @@ jp2_front None read front is = is
 long_refusal : (s : Status) (read input : List ℕ) → most_bytes < length read → most_bytes < length input → RefusesBoxes read s → RefusesBoxes input s
 long_refusal status.Done read input long whole is = absurd is
 long_refusal status.Words read input long whole is = absurd is
+long_refusal (status.Unlike how) read input long whole is = absurd is
 long_refusal (status.Rule number place) read input long whole is = absurd (omega (arith, is.0, long))
 long_refusal (status.Limit number found) read input long whole is = (whole, is.1, is.2)
 long_refusal (status.Choice number place) read input long whole is = absurd is
@@ -55,6 +56,7 @@ jp2_long name work kind aim read input s blocks bytes tape a b c long whole firs
 file_after : (name : Text) (file : List ℕ) (s : Status) (bytes : ℕ) (a b c : Meaning) → IsUntouched a b → LeavesFile name file s bytes b c → LeavesFile name file s bytes a c
 file_after name file status.Done bytes a b c first is = (made_after name file a b c first is.0, is.1)
 file_after name file status.Words bytes a b c first is = untouched_twice a b c first is
+file_after name file (status.Unlike how) bytes a b c first is = untouched_twice a b c first is
 file_after name file (status.Rule number place) bytes a b c first is = untouched_twice a b c first is
 file_after name file (status.Limit number found) bytes a b c first is = untouched_twice a b c first is
 file_after name file (status.Choice number place) bytes a b c first is = untouched_twice a b c first is
@@ -91,6 +93,7 @@ jp2_after name work kind aim input s blocks bytes tape a b c first (inr around) 
 told_late : (aim : Aim) (inner : List ℕ) (s : Status) (blocks : ℕ) (out : List ℕ) → TellsMade aim inner s blocks out → AreTold inner blocks
 told_late aim inner status.Done blocks out is = inr is.count
 told_late aim inner status.Words blocks out is = absurd is
+told_late aim inner (status.Unlike how) blocks out is = absurd is
 told_late aim inner (status.Rule number place) blocks out is = inl is
 told_late aim inner (status.Limit number found) blocks out is = limit_told inner number blocks is
 told_late aim inner (status.Choice number place) blocks out is = inr is
@@ -102,6 +105,7 @@ told_late aim inner status.NoMemory blocks out is = is
 file_late : (name : Text) (file : List ℕ) (s : Status) (bytes : ℕ) (old new : Meaning) → LeavesFile name file s bytes old new → IsBegun name file old new
 file_late name file status.Done bytes old new is = inr (inr is.0)
 file_late name file status.Words bytes old new is = inl is
+file_late name file (status.Unlike how) bytes old new is = inl is
 file_late name file (status.Rule number place) bytes old new is = inl is
 file_late name file (status.Limit number found) bytes old new is = inl is
 file_late name file (status.Choice number place) bytes old new is = inl is

@@ -49,6 +49,7 @@ pub leaves_after : (name : Text) (aim : Aim) (input : List ℕ) (s : Status) (bl
 leaves_after name aim input status.Done blocks bytes a b c first next =
     record { out = next.out; is = next.is; made = made_after name next.out a b c first next.made; kept = next.kept; count = next.count; long = next.long }
 leaves_after name aim input status.Words blocks bytes a b c first next = refused_after blocks a b c first next
+leaves_after name aim input (status.Unlike how) blocks bytes a b c first next = absurd next
 leaves_after name aim input (status.Rule number place) blocks bytes a b c first next = refused_after blocks a b c first next
 leaves_after name aim input (status.Limit number found) blocks bytes a b c first next = (next.0, untouched_twice a b c first next.1)
 leaves_after name aim input (status.Choice number place) blocks bytes a b c first (inl next) =

@@ -1,6 +1,9 @@
 mod DoneLemmas
 mod ReadLemmas
 mod SaidLemmas
+mod JudgeLemmas
+mod SameLemmas
+mod KeptSameLemmas
 mod FiledLemmas
 mod TapeLemmas
 mod AnswerLemmas

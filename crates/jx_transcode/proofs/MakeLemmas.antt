@@ -41,6 +41,7 @@ told_of : (name : List ℕ) (aim : Aim) (input : List ℕ) (s : Status) (blocks 
     → Leaves name aim input s blocks bytes empty new → AreTold input blocks
 told_of name aim input status.Done blocks bytes new words read write leaves = inr leaves.count
 told_of name aim input status.Words blocks bytes new words read write leaves = absurd (words refl)
+told_of name aim input (status.Unlike how) blocks bytes new words read write leaves = absurd leaves
 told_of name aim input (status.Rule number place) blocks bytes new words read write leaves = inl leaves.0
 told_of name aim input (status.Limit number found) blocks bytes new words read write leaves = limit_told input number blocks leaves.0
 told_of name aim input (status.Choice number place) blocks bytes new words read write (inl seven) = inr seven.1.count
@@ -65,6 +66,7 @@ pub out_of : (name : List ℕ) (aim : Aim) (input : List ℕ) (s : Status) (bloc
 out_of name aim input status.Done blocks bytes new words read write leaves =
     record { out = leaves.out; tells = record { is = leaves.is; kept = leaves.kept; count = leaves.count }; long = λ done. leaves.long; made = λ done. last_made name leaves.out new leaves.made }
 out_of name aim input status.Words blocks bytes new words read write leaves = absurd (words refl)
+out_of name aim input (status.Unlike how) blocks bytes new words read write leaves = absurd leaves
 out_of name aim input (status.Rule number place) blocks bytes new words read write leaves = none_out name aim input (status.Rule number place) blocks bytes new tt leaves.0
 out_of name aim input (status.Limit number found) blocks bytes new words read write leaves = none_out name aim input (status.Limit number found) blocks bytes new tt leaves.0
 out_of name aim input (status.Choice number place) blocks bytes new words read write (inl seven) = none_out name aim input (status.Choice number place) blocks bytes new tt seven.1.count
@@ -88,6 +90,7 @@ refused_ready m rule before after total = record {
 same_line : (s : Status) (blocks a b c d e f : ℕ) → (s ≡ status.Done → (a ≡ d) × (b ≡ e) × (c ≡ f)) → make_line s blocks a b c ≡ make_line s blocks d e f
 same_line status.Done blocks a b c d e f same = let h = same refl in rw (h.0, h.1, h.2) refl
 same_line status.Words blocks a b c d e f same = refl
+same_line (status.Unlike how) blocks a b c d e f same = refl
 same_line (status.Rule number place) blocks a b c d e f same = refl
 same_line (status.Limit number found) blocks a b c d e f same = refl
 same_line (status.Choice number place) blocks a b c d e f same = refl

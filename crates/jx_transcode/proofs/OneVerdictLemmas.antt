@@ -301,6 +301,7 @@ module _ (laws : Laws) (aim : Aim) (input : List ℕ) where
   one_verdict status.Done (status.Choice n q) x y = absurd (done_and_choice n q x y)
   one_verdict status.Done (status.Block k) x y = absurd (bad_and_done k y x)
   one_verdict status.Done status.Words x y = absurd y
+  one_verdict status.Done (status.Unlike how) x y = absurd y
   one_verdict status.Done status.ReadFault x y = absurd y
   one_verdict status.Done status.WriteFault x y = absurd y
   one_verdict status.Done status.NoMemory x y = absurd y
@@ -310,6 +311,7 @@ module _ (laws : Laws) (aim : Aim) (input : List ℕ) where
   one_verdict (status.Rule n p) (status.Choice k q) x y = absurd (rule_and_choice n p k q x y)
   one_verdict (status.Rule n p) (status.Block k) x y = absurd (bad_and_rule k n p y x)
   one_verdict (status.Rule n p) status.Words x y = absurd y
+  one_verdict (status.Rule n p) (status.Unlike how) x y = absurd y
   one_verdict (status.Rule n p) status.ReadFault x y = absurd y
   one_verdict (status.Rule n p) status.WriteFault x y = absurd y
   one_verdict (status.Rule n p) status.NoMemory x y = absurd y
@@ -319,6 +321,7 @@ module _ (laws : Laws) (aim : Aim) (input : List ℕ) where
   one_verdict (status.Limit n p) (status.Choice k q) x y = absurd (choice_and_limit k q n p y x)
   one_verdict (status.Limit n p) (status.Block k) x y = absurd (bad_and_limit k n p y x)
   one_verdict (status.Limit n p) status.Words x y = absurd y
+  one_verdict (status.Limit n p) (status.Unlike how) x y = absurd y
   one_verdict (status.Limit n p) status.ReadFault x y = absurd y
   one_verdict (status.Limit n p) status.WriteFault x y = absurd y
   one_verdict (status.Limit n p) status.NoMemory x y = absurd y
@@ -328,6 +331,7 @@ module _ (laws : Laws) (aim : Aim) (input : List ℕ) where
   one_verdict (status.Choice n p) (status.Choice k q) x y = two_choices n p k q x y
   one_verdict (status.Choice n p) (status.Block k) x y = absurd (bad_and_choice k n p y x)
   one_verdict (status.Choice n p) status.Words x y = absurd y
+  one_verdict (status.Choice n p) (status.Unlike how) x y = absurd y
   one_verdict (status.Choice n p) status.ReadFault x y = absurd y
   one_verdict (status.Choice n p) status.WriteFault x y = absurd y
   one_verdict (status.Choice n p) status.NoMemory x y = absurd y
@@ -337,10 +341,12 @@ module _ (laws : Laws) (aim : Aim) (input : List ℕ) where
   one_verdict (status.Block k) (status.Choice n p) x y = absurd (bad_and_choice k n p x y)
   one_verdict (status.Block k) (status.Block n) x y = rw (same_bad laws aim input x.0 k n x.1 y.1) refl
   one_verdict (status.Block k) status.Words x y = absurd y
+  one_verdict (status.Block k) (status.Unlike how) x y = absurd y
   one_verdict (status.Block k) status.ReadFault x y = absurd y
   one_verdict (status.Block k) status.WriteFault x y = absurd y
   one_verdict (status.Block k) status.NoMemory x y = absurd y
   one_verdict status.Words t x y = absurd x
+  one_verdict (status.Unlike how) t x y = absurd x
   one_verdict status.ReadFault t x y = absurd x
   one_verdict status.WriteFault t x y = absurd x
   one_verdict status.NoMemory t x y = absurd x

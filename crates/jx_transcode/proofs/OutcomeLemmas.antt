@@ -37,6 +37,7 @@ limit_one aim number found read long (inr many) = absurd (omega (arith, many.0))
 long_verdict : (aim : Aim) (s : Status) (read input : List ℕ) → most_bytes < length read → most_bytes < length input → Verdict aim read s → Verdict aim input s
 long_verdict aim status.Done read input long whole verdict = absurd (omega (arith, verdict.0))
 long_verdict aim status.Words read input long whole verdict = absurd verdict
+long_verdict aim (status.Unlike how) read input long whole verdict = absurd verdict
 long_verdict aim (status.Rule number place) read input long whole verdict = absurd (omega (arith, verdict.0))
 long_verdict aim (status.Limit number found) read input long whole (inl verdict) = inl (long_limit number found read input long whole verdict)
 long_verdict aim (status.Limit number found) read input long whole (inr many) = absurd (omega (arith, many.0))
@@ -59,6 +60,7 @@ long_leaves : (name : Text) (aim : Aim) (s : Status) (read input : List ℕ) (bl
     → Leaves name aim read s blocks bytes a b → Leaves name aim input s blocks bytes a b
 long_leaves name aim status.Done read input blocks bytes a b long whole verdict leaves = absurd (omega (arith, (verdict tt).0, long))
 long_leaves name aim status.Words read input blocks bytes a b long whole verdict leaves = leaves
+long_leaves name aim (status.Unlike how) read input blocks bytes a b long whole verdict leaves = absurd leaves
 long_leaves name aim (status.Rule number place) read input blocks bytes a b long whole verdict leaves = leaves
 long_leaves name aim (status.Limit number found) read input blocks bytes a b long whole verdict leaves =
     (long_limited number blocks read input (limit_one aim number found read long (verdict tt)) leaves.0, leaves.1)

@@ -61,6 +61,7 @@ positions_told request told positions s late old read front short kept is done =
     is_done : (x : Status) → (x ≡ status.Done) ⊎ (x ≡ status.Done → ⊥)
     is_done status.Done = inl refl
     is_done status.Words = inr (undone status.Words tt)
+    is_done (status.Unlike how) = inr (undone (status.Unlike how) tt)
     is_done (status.Rule number place) = inr (undone (status.Rule number place) tt)
     is_done (status.Limit number found) = inr (undone (status.Limit number found) tt)
     is_done (status.Choice number place) = inr (undone (status.Choice number place) tt)

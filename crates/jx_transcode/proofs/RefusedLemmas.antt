@@ -141,7 +141,7 @@ pub too_long : (name : Text) (work : Work) (aim : Aim) (input : List ℕ) (mm : 
 too_long name work aim input mm long =
     record { verdict = λ v. inl (inl (long, refl, refl)); leaves = (inr (omega arith, refl), untouched mm); unsaid = refused_short name aim input mm; tape = inl refl; whole = λ done. absurd (undone (status.Limit 1 268435457) tt done); taped = refl }
 
-tile_cause : (input : List ℕ) (s : Stream) (e : StreamFault) → IsRead input s → HasCause (IsBroken input s) e → IsInputCause input e
+pub tile_cause : (input : List ℕ) (s : Stream) (e : StreamFault) → IsRead input s → HasCause (IsBroken input s) e → IsInputCause input e
 tile_cause input s (fault.Rule number place) read broken = inr (record { stream = s; read = read; broken = broken })
 tile_cause input s (fault.Limit number found) read broken = inr (record { stream = s; read = read; broken = broken })
 tile_cause input s fault.NoMemory read broken = tt
@@ -152,7 +152,7 @@ no_rule number place e = cc
 no_limit : (number found : ℕ) → fault.Limit number found ≡ fault.NoMemory → ⊥
 no_limit number found e = cc
 
-header_cause : (input : List ℕ) (e : StreamFault) → (e ≡ fault.NoMemory) ⊎ IsFirst input e → IsInputCause input e
+pub header_cause : (input : List ℕ) (e : StreamFault) → (e ≡ fault.NoMemory) ⊎ IsFirst input e → IsInputCause input e
 header_cause input (fault.Rule number place) (inl e) = absurd (no_rule number place e)
 header_cause input (fault.Rule number place) (inr first) = inl first
 header_cause input (fault.Limit number found) (inl e) = absurd (no_limit number found e)
@@ -175,6 +175,7 @@ reads_of input s blocks read totals gathered = record { read = read; totals = to
 IsTold : Status → Type 0
 IsTold status.Done = Unit {0}
 IsTold status.Words = ⊥
+IsTold (status.Unlike how) = ⊥
 IsTold (status.Rule number place) = Unit {0}
 IsTold (status.Limit number found) = Unit {0}
 IsTold (status.Choice number place) = Unit {0}

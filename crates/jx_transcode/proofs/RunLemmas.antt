@@ -7,6 +7,7 @@ use Rattle.jx_layers.specs.Rule.{Rule}
 use Rattle.jx_plan.specs.Planned.{chosen}
 use Rattle.jx_cli.specs.BoxesWords.{boxes_of, is_boxes}
 use Rattle.jx_cli.specs.MakeWords.{Make, is_make, make_of}
+use Rattle.jx_cli.specs.SameWords.{Pair, is_same, same_of}
 use Rattle.jx_cli.specs.Words.{Request, Text, is_good, request_of}
 use Rattle.jx_cli.specs.declared.WordsFault.{WordsFault}
 use Rattle.jx_transcode.specs.BoxesRun.{EndsListed}
@@ -14,6 +15,7 @@ use Rattle.jx_transcode.specs.Commands.{AskNothing, Asks, made_by}
 use Rattle.jx_transcode.specs.MakeRun.{EndsMade}
 use Rattle.jx_transcode.specs.Outcome.{EndsAs, EndsAtWords, line_of}
 use Rattle.jx_transcode.specs.Runs.{Outcome}
+use Rattle.jx_transcode.specs.SameRun.{EndsCompared}
 use Rattle.jx_transcode.specs.TranscodeRun.{Ends}
 use Rattle.jx_transcode.specs.declared.commands.Command.TheVariants as command
 use Rattle.jx_transcode.specs.declared.status.Status.{Status}
@@ -21,6 +23,7 @@ use Rattle.jx_transcode.specs.declared.status.Status.TheVariants as status
 use Rattle.jx_rounds.specs.declared.tape.TapeEntry.{TapeEntry}
 use Rattle.jx_transcode.proofs.BoxesLemmas.{listed_short}
 use Rattle.jx_transcode.proofs.MakeLemmas.{made_short}
+use Rattle.jx_transcode.proofs.SameLemmas.{compared_short}
 use Rattle.jx_transcode.proofs.OutcomeLemmas.{ends_said, ends_unread, unread_said}
 use Rattle.jx_transcode.proofs.FiledLemmas.{untouched}
 
@@ -28,28 +31,41 @@ use Rattle.jx_transcode.proofs.FiledLemmas.{untouched}
 pub outcome_transcode : (words : List Text) (request : Request) (rule : List ℕ → StreamFacts → Option Rule) (s : Status) (blocks : ℕ) (entries : List TapeEntry) (old new : Meaning) (before now : Option (List ℕ))
     → Asks words (command.Transcode request) → Ends request rule s blocks entries old new before now → Outcome words rule s blocks entries old new before now
 outcome_transcode words request rule s blocks entries old new before now asks ends = record {
-  good = λ is. subst (λ (r : Request). Ends r rule s blocks entries old new before now) asks.3 ends;
+  good = λ is. subst (λ (r : Request). Ends r rule s blocks entries old new before now) asks.4 ends;
   made = λ is. absurd (both_ways (is_make words) asks.1 is);
   listed = λ is. absurd (both_ways (is_boxes words) asks.2 is);
-  bad = λ not is other. absurd (both_ways (is_good words) not asks.0);
+  compared = λ is. absurd (both_ways (is_same words) asks.3 is);
+  bad = λ not is other more. absurd (both_ways (is_good words) not asks.0);
 }
 
 pub outcome_make : (words : List Text) (seed width height : ℕ) (rule : List ℕ → StreamFacts → Option Rule) (s : Status) (blocks : ℕ) (entries : List TapeEntry) (old new : Meaning) (before now : Option (List ℕ))
     → Asks words (command.Make seed width height) → EndsMade (made_by seed width height) rule s blocks entries old new before now → Outcome words rule s blocks entries old new before now
 outcome_make words seed width height rule s blocks entries old new before now asks ends = record {
   good = λ is. absurd (both_ways (is_good words) asks.0 is);
-  made = λ is. subst (λ (m : Make). EndsMade m rule s blocks entries old new before now) asks.3 ends;
+  made = λ is. subst (λ (m : Make). EndsMade m rule s blocks entries old new before now) asks.4 ends;
   listed = λ is. absurd (both_ways (is_boxes words) asks.2 is);
-  bad = λ not is other. absurd (both_ways (is_make words) is asks.1);
+  compared = λ is. absurd (both_ways (is_same words) asks.3 is);
+  bad = λ not is other more. absurd (both_ways (is_make words) is asks.1);
 }
 
 pub outcome_boxes : (words : List Text) (name : Text) (rule : List ℕ → StreamFacts → Option Rule) (s : Status) (blocks : ℕ) (entries : List TapeEntry) (old new : Meaning) (before now : Option (List ℕ))
-    → (is_good words ≡ false) × (is_make words ≡ false) × (is_boxes words ≡ true) × (name ≡ boxes_of words) → EndsListed name s blocks entries old new before now → Outcome words rule s blocks entries old new before now
+    → (is_good words ≡ false) × (is_make words ≡ false) × (is_boxes words ≡ true) × (is_same words ≡ false) × (name ≡ boxes_of words) → EndsListed name s blocks entries old new before now → Outcome words rule s blocks entries old new before now
 outcome_boxes words name rule s blocks entries old new before now asks ends = record {
   good = λ is. absurd (both_ways (is_good words) asks.0 is);
   made = λ is. absurd (both_ways (is_make words) asks.1 is);
-  listed = λ is. subst (λ (n : Text). EndsListed n s blocks entries old new before now) asks.3 ends;
-  bad = λ not is other. absurd (both_ways (is_boxes words) other asks.2);
+  listed = λ is. subst (λ (n : Text). EndsListed n s blocks entries old new before now) asks.4 ends;
+  compared = λ is. absurd (both_ways (is_same words) asks.3 is);
+  bad = λ not is other more. absurd (both_ways (is_boxes words) other asks.2);
+}
+
+pub outcome_same : (words : List Text) (names : Pair) (rule : List ℕ → StreamFacts → Option Rule) (s : Status) (blocks : ℕ) (entries : List TapeEntry) (old new : Meaning) (before now : Option (List ℕ))
+    → Asks words (command.Same names) → EndsCompared names s blocks entries old new before now → Outcome words rule s blocks entries old new before now
+outcome_same words names rule s blocks entries old new before now asks ends = record {
+  good = λ is. absurd (both_ways (is_good words) asks.0 is);
+  made = λ is. absurd (both_ways (is_make words) asks.1 is);
+  listed = λ is. absurd (both_ways (is_boxes words) asks.2 is);
+  compared = λ is. subst (λ (p : Pair). EndsCompared p s blocks entries old new before now) asks.4 ends;
+  bad = λ not is other more. absurd (both_ways (is_same words) more asks.3);
 }
 
 -- a reader's refusal is another's
@@ -72,7 +88,8 @@ outcome_words words rule late fault_before fault_now files before now none said 
   good = λ is. absurd (both_ways (is_good words) none.0 is);
   made = λ is. absurd (both_ways (is_make words) none.1 is);
   listed = λ is. absurd (both_ways (is_boxes words) none.2 is);
-  bad = λ not is other. words_other status.Words late fault_before fault_now files before now (inl refl) said;
+  compared = λ is. absurd (both_ways (is_same words) none.3 is);
+  bad = λ not is other more. words_other status.Words late fault_before fault_now files before now (inl refl) said;
 }
 
 pub outcome_memory : (words : List Text) (rule : List ℕ → StreamFacts → Option Rule) (late : Status) (fault_before fault_now : ℕ) (files : Meaning) (before now : Option (List ℕ))
@@ -81,7 +98,8 @@ outcome_memory words rule late fault_before fault_now files before now said = re
   good = λ is. memory_good words rule late fault_before fault_now files before now said;
   made = λ is. made_short (make_of words) rule late fault_before fault_now files before now said;
   listed = λ is. listed_short (boxes_of words) late fault_before fault_now files before now said;
-  bad = λ not is other. words_other status.NoMemory late fault_before fault_now files before now (inr refl) said;
+  compared = λ is. compared_short (same_of words) late fault_before fault_now files before now said;
+  bad = λ not is other more. words_other status.NoMemory late fault_before fault_now files before now (inr refl) said;
 }
 
 -- with the planners that were lent

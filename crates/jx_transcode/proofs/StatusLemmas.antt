@@ -90,6 +90,7 @@ unread_unwritten refused.NoMemory s is failed = memory_unwritten s is failed
 pub complete : {A B C : Type 0} (s : Status) → (s ≡ status.ReadFault → A) → (s ≡ status.WriteFault → B ⊎ C) → (A → ⊥) → (B → ⊥) → (C → ⊥) → IsVerdict s ⊎ (s ≡ status.NoMemory)
 complete status.Done read write a b c = inl tt
 complete status.Words read write a b c = inl tt
+complete (status.Unlike how) read write a b c = inl tt
 complete (status.Rule number place) read write a b c = inl tt
 complete (status.Limit number found) read write a b c = inl tt
 complete (status.Choice number place) read write a b c = inl tt

@@ -76,6 +76,7 @@ in_rounds input p entries reads all is = record {
 pub taped_late : (input : List ℕ) (s : Status) (entries : ℕ) → IsTapedAfter input s entries → IsTapedInPart input entries
 taped_late input status.Done entries is = inr (record { stream = is.stream; blocks = is.blocks; reads = is.reads; ends = inl is.count_is })
 taped_late input status.Words entries is = inl is
+taped_late input (status.Unlike how) entries is = inl is
 taped_late input (status.Rule number place) entries is = inl is
 taped_late input (status.Limit number found) entries is = inl is
 taped_late input (status.Choice number place) entries (inl seven) =
@@ -91,6 +92,7 @@ taped_late input status.NoMemory entries is = is
 pub long_taped : (aim : Aim) (s : Status) (read input : List ℕ) (entries : ℕ) → most_bytes < length read → (IsVerdict s → Verdict aim read s) → entries ≡ 0 → IsTapedAfter input s entries
 long_taped aim status.Done read input entries long verdict none = absurd (omega (arith, (verdict tt).0, long))
 long_taped aim status.Words read input entries long verdict none = none
+long_taped aim (status.Unlike how) read input entries long verdict none = none
 long_taped aim (status.Rule number place) read input entries long verdict none = none
 long_taped aim (status.Limit number found) read input entries long verdict none = none
 long_taped aim (status.Choice number place) read input entries long verdict none = absurd (omega (arith, (verdict tt).0, long))
@@ -103,6 +105,7 @@ long_taped aim status.NoMemory read input entries long verdict none = inl none
 pub raised_taped : (input : List ℕ) (from : ℕ) (s : Status) (entries : ℕ) → IsTapedAfter input s entries → IsTapedAfter input (raised from s) entries
 raised_taped input from status.Done entries is = is
 raised_taped input from status.Words entries is = is
+raised_taped input from (status.Unlike how) entries is = is
 raised_taped input from (status.Rule number place) entries is = is
 raised_taped input from (status.Limit number found) entries is = is
 raised_taped input from (status.Choice number place) entries is = is

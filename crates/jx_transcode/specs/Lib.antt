@@ -8,6 +8,8 @@ pub mod Commands
 pub mod TranscodeRun
 pub mod MakeRun
 pub mod BoxesRun
+pub mod SameLines
+pub mod SameRun
 pub mod Jp2Run
 pub mod Progress
 pub mod Judged

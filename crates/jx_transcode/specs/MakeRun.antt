@@ -49,6 +49,7 @@ make_line status.Done blocks before after total =
     codes "make: "
     ++ (decimal blocks ++ (codes " blocks, " ++ (decimal before ++ (codes " bytes in, " ++ (decimal after ++ (codes " bytes out, sum " ++ (decimal total ++ codes "\n")))))))
 make_line status.Words blocks before after total = line_of status.Words blocks 0
+make_line (status.Unlike how) blocks before after total = line_of (status.Unlike how) blocks 0
 make_line (status.Rule number place) blocks before after total = line_of (status.Rule number place) blocks 0
 make_line (status.Limit number found) blocks before after total = line_of (status.Limit number found) blocks 0
 make_line (status.Choice number place) blocks before after total = line_of (status.Choice number place) blocks 0
@@ -71,6 +72,7 @@ pub record IsMadeAnew (aim : Aim) (input out : List ℕ) (blocks : ℕ) : Type 0
 abbrev pub TellsMade : Aim → List ℕ → Status → ℕ → List ℕ → Type 0
 TellsMade aim input status.Done blocks out = IsMadeAnew aim input out blocks
 TellsMade aim input status.Words blocks out = ⊥
+TellsMade aim input (status.Unlike how) blocks out = ⊥
 TellsMade aim input (status.Rule number place) blocks out = blocks ≡ 0
 TellsMade aim input (status.Limit number found) blocks out = IsLimited input number blocks
 TellsMade aim input (status.Choice number place) blocks out = HasBlocks input blocks

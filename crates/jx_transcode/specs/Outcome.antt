@@ -4,6 +4,7 @@ use Rattle.std.specs.Option.{option_map}
 use Rattle.std.specs.Fmt.{decimal}
 use Rattle.jx_io.specs.Causes.{Rose}
 use Rattle.jx_io.specs.Device.{Meaning, after_create, after_write, after_finish}
+use Rattle.jx_transcode.specs.SameLines.{unlike_line, unlike_number}
 use Rattle.jx_transcode.specs.declared.status.Status.{Status}
 use Rattle.jx_cli.specs.Words.{Text}
 use Rattle.jx_rounds.specs.declared.tape.TapeEntry.{TapeEntry}
@@ -23,6 +24,7 @@ most_bytes = 2 ^ 28
 abbrev pub number_of : Status → ℕ
 number_of status.Done = 0
 number_of status.Words = 2
+number_of (status.Unlike how) = unlike_number how
 number_of (status.Rule number place) = 3
 number_of (status.Limit number found) = 4
 number_of status.ReadFault = 7
@@ -35,6 +37,7 @@ number_of (status.Block number) = 6
 abbrev pub IsVerdict : Status → Type 0
 IsVerdict status.Done = Unit {0}
 IsVerdict status.Words = Unit {0}
+IsVerdict (status.Unlike how) = Unit {0}
 IsVerdict (status.Rule number place) = Unit {0}
 IsVerdict (status.Limit number found) = Unit {0}
 IsVerdict (status.Choice number place) = Unit {0}
@@ -59,6 +62,7 @@ Verdict aim input (status.Limit number found) = PassesLimit input number found �
 Verdict aim input (status.Choice number place) = (length input ≤ most_bytes) × (((number ≡ 7) × IsTooLongAt aim input place) ⊎ IsUnplanned aim input (unplanned.Choice number place))
 Verdict aim input (status.Block number) = (length input ≤ most_bytes) × IsBad aim input number
 Verdict aim input status.Words = ⊥
+Verdict aim input (status.Unlike how) = ⊥
 Verdict aim input status.ReadFault = ⊥
 Verdict aim input status.WriteFault = ⊥
 Verdict aim input status.NoMemory = ⊥
@@ -67,6 +71,7 @@ Verdict aim input status.NoMemory = ⊥
 abbrev pub line_of : Status → ℕ → ℕ → List ℕ
 line_of status.Done blocks bytes = codes "done: " ++ (decimal blocks ++ (codes " blocks, " ++ (decimal bytes ++ codes " bytes\n")))
 line_of status.Words blocks bytes = codes "words\n"
+line_of (status.Unlike how) blocks bytes = unlike_line how
 line_of (status.Rule number place) blocks bytes = codes "rule " ++ (decimal number ++ (codes " at " ++ (decimal place ++ codes "\n")))
 line_of (status.Limit number found) blocks bytes = codes "limit " ++ (decimal number ++ (codes ": " ++ (decimal found ++ codes "\n")))
 line_of (status.Choice number place) blocks bytes = codes "choice " ++ (decimal number ++ (codes " at " ++ (decimal place ++ codes "\n")))
@@ -85,6 +90,7 @@ Says status.WriteFault line old new = new ≡ old
 Says status.NoMemory line old new = (new ≡ old) ⊎ (new ≡ said_after line old)
 Says status.Done line old new = new ≡ said_after line old
 Says status.Words line old new = new ≡ said_after line old
+Says (status.Unlike how) line old new = new ≡ said_after line old
 Says (status.Rule number place) line old new = new ≡ said_after line old
 Says (status.Limit number found) line old new = new ≡ said_after line old
 Says (status.Choice number place) line old new = new ≡ said_after line old
@@ -178,6 +184,7 @@ IsLimited input number blocks = ((number ≡ 7) × HasBlocks input blocks) ⊎ (
 abbrev pub Leaves : Text → Aim → List ℕ → Status → ℕ → ℕ → Meaning → Meaning → Type 0
 Leaves name aim input status.Done blocks bytes old new = IsWhole name aim input blocks bytes old new
 Leaves name aim input status.Words blocks bytes old new = IsRefused blocks old new
+Leaves name aim input (status.Unlike how) blocks bytes old new = ⊥
 Leaves name aim input (status.Rule number place) blocks bytes old new = IsRefused blocks old new
 Leaves name aim input (status.Limit number found) blocks bytes old new = IsLimited input number blocks × IsUntouched old new
 Leaves name aim input (status.Choice number place) blocks bytes old new =

@@ -63,6 +63,7 @@ IsTapedInPart input entries = (entries ≡ 0) ⊎ IsTapedInRounds input entries
 abbrev pub IsTapedAfter : List ℕ → Status → ℕ → Type 0
 IsTapedAfter input status.Done entries = HasBlocks input entries
 IsTapedAfter input status.Words entries = entries ≡ 0
+IsTapedAfter input (status.Unlike how) entries = entries ≡ 0
 IsTapedAfter input (status.Rule number place) entries = entries ≡ 0
 IsTapedAfter input (status.Limit number found) entries = entries ≡ 0
 IsTapedAfter input (status.Choice number place) entries = ((number ≡ 7) × IsTapedToTile input place entries) ⊎ ((number < 7) × (entries ≡ 0))

@@ -161,7 +161,7 @@ fn raised(status: Status, from: u32) -> Status
 }
 
 /// The codestream of a file.
-fn content_of<'a>(input: &'a [u8], boxed: &Boxed) -> &'a [u8]
+pub fn content_of<'a>(input: &'a [u8], boxed: &Boxed) -> &'a [u8]
     requires { IsCodestream input.now boxed.now }
     ensures { result.now ≡ content input.entry.now boxed.now }
 {

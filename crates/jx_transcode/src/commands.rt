@@ -5,10 +5,11 @@ ghost use Rattle.jx_transcode.specs.Commands.{AskNothing, Asks, MayBeDone};
 
 pub mod boxes;
 pub mod make;
+pub mod same;
 pub mod transcode;
 
 use jx_cli::laws::commands_are_apart;
-use jx_cli::{Request, WordsFault, read_boxes, read_make, read_words};
+use jx_cli::{Pair, Request, WordsFault, read_boxes, read_make, read_same, read_words};
 use std::alloc::Global;
 
 /// What words ask for.
@@ -20,6 +21,8 @@ pub enum Command {
     Make { seed: u64, width: u32, height: u32 },
     /// The boxes of the JP2 file of a name are listed.
     Boxes(String),
+    /// The codestreams of two files are compared.
+    Same(Pair),
 }
 
 /// Reads the words of the command line, the program's name among them.
@@ -49,7 +52,12 @@ pub fn read_command(alloc: Global, words: &[String]) -> Result<Command, WordsFau
         Err(WordsFault::NoMemory) => return Err(WordsFault::NoMemory),
     }
     match read_boxes(alloc, words) {
-        Ok(name) => Ok(Command::Boxes(name)),
+        Ok(name) => return Ok(Command::Boxes(name)),
+        Err(WordsFault::Words) => {}
+        Err(WordsFault::NoMemory) => return Err(WordsFault::NoMemory),
+    }
+    match read_same(alloc, words) {
+        Ok(names) => Ok(Command::Same(names)),
         Err(fault) => Err(fault),
     }
 }

@@ -57,6 +57,7 @@ fn read_on<F: Files>(files: &mut F, bytes: &mut [u8], filled: usize) -> Result<u
     ensures end { IfOk result (λ n. n ≡ 0 → IfSome (F.meaning files.new).left (λ rest. rest ≡ [])) }
     ensures same { SameButLeft (F.meaning files.old) (F.meaning files.new) }
     ensures reading { IsTrue (F.meaning files.new).reading }
+    ensures opens { Allows (F.can_open files.old) (F.can_open files.new) }
     ensures creates { Allows (F.can_create files.old) (F.can_create files.new) }
     ensures cause { HasCause (F.read_faults files.old) (F.read_faults files.new) result }
     ensures other { F.write_faults files.new ≡ F.write_faults files.old }
@@ -76,6 +77,7 @@ fn read_more<F: Files>(files: &mut F, bytes: &mut Vec<u8>, filled: usize) -> Res
     ensures end { IfOk result (λ n. n ≡ 0 → IfSome (F.meaning files.new).left (λ rest. rest ≡ [])) }
     ensures same { SameButLeft (F.meaning files.old) (F.meaning files.new) }
     ensures reading { IsTrue (F.meaning files.new).reading }
+    ensures opens { Allows (F.can_open files.old) (F.can_open files.new) }
     ensures creates { Allows (F.can_create files.old) (F.can_create files.new) }
     ensures cause { HasCause (F.read_faults files.old) (F.read_faults files.new) result }
     ensures other { F.write_faults files.new ≡ F.write_faults files.old }
@@ -91,6 +93,7 @@ fn fill<F: Files>(files: &mut F, bytes: &mut Vec<u8>) -> Result<usize, Refused>
     ensures within { IfOk result (λ n. n ≤ vec_len bytes.new) }
     ensures bytes { IfOk result (λ n. IfSome (F.meaning files.old).left (λ left. take n bytes.new.items ≡ take MOST left)) }
     ensures same { SameButLeft (F.meaning files.old) (F.meaning files.new) }
+    ensures opens { Allows (F.can_open files.old) (F.can_open files.new) }
     ensures creates { Allows (F.can_create files.old) (F.can_create files.new) }
     ensures cause { HasCause (F.read_faults files.old) (F.read_faults files.new) result }
     ensures other { F.write_faults files.new ≡ F.write_faults files.old }
@@ -114,6 +117,7 @@ pub fn read_all<F: Files>(alloc: Global, files: &mut F) -> Result<Vec<u8>, Refus
     requires { IsTrue (F.meaning files.old).reading }
     ensures bytes { IfOk result (λ v. IfSome (F.meaning files.old).left (λ left. v.items ≡ take MOST left)) }
     ensures same { SameButLeft (F.meaning files.old) (F.meaning files.new) }
+    ensures opens { Allows (F.can_open files.old) (F.can_open files.new) }
     ensures creates { Allows (F.can_create files.old) (F.can_create files.new) }
     ensures cause { HasCause (F.read_faults files.old) (F.read_faults files.new) result }
     ensures other { F.write_faults files.new ≡ F.write_faults files.old }

@@ -17,6 +17,7 @@ pub fn read_input<F: Files>(alloc: Global, files: &mut F, name: &str) -> Result<
     ensures bytes { IfOk result (λ v. IfSome (joined ((F.meaning files.old).holds name.now)) (λ b. v.items ≡ take MOST b)) }
     ensures there { OnOk result (IsThere (F.meaning files.old) name.now) }
     ensures same { IsUntouched (F.meaning files.old) (F.meaning files.new) }
+    ensures opens { Allows (F.can_open files.old) (F.can_open files.new) }
     ensures creates { Allows (F.can_create files.old) (F.can_create files.new) }
     ensures cause { HasCause (F.read_faults files.old) (F.read_faults files.new) result }
     ensures other { F.write_faults files.new ≡ F.write_faults files.old }

@@ -1,5 +1,5 @@
 //! Laws over what becomes of an input. The functions do nothing but cite the laws of the crates below: their contracts carry the laws.
-ghost use Rattle.std.specs.Prelude.{◌≡◌, ◌⊎◌, ◌≤◌, ℕ, List, Option, length};
+ghost use Rattle.std.specs.Prelude.{◌≡◌, ◌⊎◌, ◌≤◌, ℕ, List, None, Option, length};
 ghost use Rattle.jx_layers.specs.declared.StreamFacts.{StreamFacts};
 ghost use Rattle.jx_layers.specs.Rule.{Rule};
 ghost use Rattle.jx_marker.specs.Ranges.{AreBytes};
@@ -15,7 +15,9 @@ ghost use Rattle.jx_options.specs.Work.{Work};
 ghost use Rattle.jx_options.specs.declared.FormChoice.{FormChoice};
 ghost use Rattle.jx_rounds.specs.declared.tape.TapeEntry.{TapeEntry};
 ghost use Rattle.jx_transcode.specs.Jp2Run.{EndsAround, FileVerdict, file_in};
-ghost use Rattle.jx_transcode.specs.Rewritten.{IsRewritten};
+ghost use Rattle.jx_tile.specs.Totals.{totals_fault};
+ghost use Rattle.jx_transcode.specs.Rewritten.{IsKept, IsRewritten};
+ghost use Rattle.jx_transcode.specs.SameRun.{HasCodestream, SameVerdict};
 ghost use Rattle.jx_transcode.specs.TranscodeRun.{EndsBare};
 ghost use Rattle.jx_transcode.specs.MadeVerdict.{HasNoRule};
 ghost use Rattle.jx_transcode.specs.MakeRun.{aim_made, input_of};
@@ -100,6 +102,13 @@ pub fn boxes_have_one_verdict()
     one_tree();
     some_tree();
 }
+
+/// What `transcode` wrote of an input is the same as the input under `same`, where it is within the limits, as a codestream or as a JP2 file:
+/// `inner` is the input's codestream, `again` that of the file that was written.
+pub fn kept_is_same()
+    ensures { (aim : Aim) (input out inner again : List ℕ) (from to : ℕ) (kept : IsKept aim inner again) → length input ≤ most_bytes → length out ≤ most_bytes
+        → HasCodestream input from inner → HasCodestream out to again → totals_fault kept.after ≡ None → SameVerdict input out status.Done }
+{}
 
 /// A generated codestream violates no rule, and passes no limit but that on packets of the output.
 pub fn made_is_accepted()

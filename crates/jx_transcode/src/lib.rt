@@ -7,6 +7,7 @@ mod commands;
 mod device;
 mod file;
 mod input;
+mod judge;
 pub mod laws;
 mod lines;
 mod program;
@@ -16,4 +17,4 @@ mod status;
 
 pub use jx_rounds::TapeEntry;
 pub use program::run;
-pub use status::{Report, Status};
+pub use status::{Report, Status, Unlike};

@@ -4,12 +4,14 @@ ghost use Rattle.std.specs.Prelude.{◌≡◌, ◌<◌, ◌⊎◌, None, Some, t
 ghost use Rattle.jx_plan.specs.Planned.{chosen};
 ghost use Rattle.jx_io.specs.Causes.{Rose};
 ghost use Rattle.jx_cli.specs.BoxesWords.{boxes_of, is_boxes};
+ghost use Rattle.jx_cli.specs.SameWords.{is_same, same_of};
 ghost use Rattle.jx_cli.specs.Words.{is_good, request_of};
 ghost use Rattle.jx_transcode.specs.Outcome.{EndsAsReadFault, IsVerdict};
 ghost use Rattle.jx_transcode.specs.Runs.{Outcome};
+ghost use Rattle.jx_transcode.specs.SameRun.{IsOfFirst};
 ghost use Rattle.jx_transcode.specs.TranscodeRun.{TellsPositions};
 
-use crate::commands::{Command, boxes, make, read_command, transcode};
+use crate::commands::{Command, boxes, make, read_command, same, transcode};
 use crate::say::refuse;
 use crate::{Report, Status};
 use jx_cli::{Make, WordsFault};
@@ -32,6 +34,9 @@ use std::thread::Threads;
 ///
 /// Those of `boxes` name a JP2 file, whose boxes are said in lines.
 ///
+/// Those of `same` name two files, either of which may be a JP2 file. The first is read and judged, then the second is opened, read and
+/// judged, and the line says whether their codestreams mean the same, or the first value in which they differ.
+///
 /// The code-blocks of a round of which some are coded anew are made by as many workers as the words ask for, inside both windows;
 /// `gate` is told of each of them. What is written doesn't depend on them.
 pub fn run<R: Threads + Wait + Sync, F: Files, S: Sink, G: Gate + Sync>(
@@ -45,6 +50,8 @@ pub fn run<R: Threads + Wait + Sync, F: Files, S: Sink, G: Gate + Sync>(
 ) -> Report
     requires opens { is_good (map string_bytes words.now) ≡ true → F.can_open files.old (request_of (map string_bytes words.now)).from }
     requires lists { is_boxes (map string_bytes words.now) ≡ true → F.can_open files.old (boxes_of (map string_bytes words.now)) }
+    requires compares { is_same (map string_bytes words.now) ≡ true
+        → F.can_open files.old (same_of (map string_bytes words.now)).first × F.can_open files.old (same_of (map string_bytes words.now)).second }
     requires creates { is_good (map string_bytes words.now) ≡ true → F.can_create files.old (request_of (map string_bytes words.now)).to }
     ensures outcome { Outcome (map string_bytes words.now) (λ text facts. chosen (λ b. serves_text b text) (λ b. rule_of b text facts) planners.items) result.status result.blocks result.tape.items (F.meaning files.old) (F.meaning files.new) (S.said say.old) (S.said say.new) }
     ensures read { result.status ≡ Status.ReadFault → Rose (F.read_faults files.old) (F.read_faults files.new) }
@@ -55,6 +62,11 @@ pub fn run<R: Threads + Wait + Sync, F: Files, S: Sink, G: Gate + Sync>(
         → EndsAsReadFault result.status (S.faults say.old) (S.faults say.new) }
     ensures unlisted { is_boxes (map string_bytes words.now) ≡ true → (F.meaning files.old).holds (boxes_of (map string_bytes words.now)) ≡ Some None
         → EndsAsReadFault result.status (S.faults say.old) (S.faults say.new) }
+    ensures unfound { is_same (map string_bytes words.now) ≡ true → (F.meaning files.old).holds (same_of (map string_bytes words.now)).first ≡ Some None
+        → EndsAsReadFault result.status (S.faults say.old) (S.faults say.new) }
+    // the second is opened once the first is accepted
+    ensures unfound_too { is_same (map string_bytes words.now) ≡ true → (F.meaning files.old).holds (same_of (map string_bytes words.now)).second ≡ Some None
+        → EndsAsReadFault result.status (S.faults say.old) (S.faults say.new) ⊎ IsOfFirst result.status }
     // a call of the files that failed
     ensures read_rose { F.read_faults files.old < F.read_faults files.new → EndsAsReadFault result.status (S.faults say.old) (S.faults say.new) }
     ensures write_rose { F.write_faults files.old < F.write_faults files.new → result.status ≡ Status.WriteFault }
@@ -65,7 +77,7 @@ pub fn run<R: Threads + Wait + Sync, F: Files, S: Sink, G: Gate + Sync>(
         → (Rose (F.write_faults files.old) (F.write_faults files.new) → ⊥)
         → (Rose (S.faults say.old) (S.faults say.new) → ⊥)
         → IsVerdict result.status ⊎ (result.status ≡ Status.NoMemory) }
-    ensures idle { is_good (map string_bytes words.now) ≡ false → is_boxes (map string_bytes words.now) ≡ false
+    ensures idle { is_good (map string_bytes words.now) ≡ false → is_boxes (map string_bytes words.now) ≡ false → is_same (map string_bytes words.now) ≡ false
         → F.read_faults files.new ≡ F.read_faults files.old }
     // whether boxes that hold positions in the file were kept
     ensures positions { is_good (map string_bytes words.now) ≡ true → TellsPositions (request_of (map string_bytes words.now)) result.positions result.status (F.meaning files.old) }
@@ -91,6 +103,7 @@ pub fn run<R: Threads + Wait + Sync, F: Files, S: Sink, G: Gate + Sync>(
             make::run(rt, alloc, asked, say, gate, &mut planners)
         }
         Ok(Command::Boxes(name)) => boxes::run(alloc, name.as_str(), files, say),
+        Ok(Command::Same(names)) => same::run(alloc, &names, files, say),
         Err(WordsFault::Words) => refuse(alloc, say, Status::Words),
         Err(WordsFault::NoMemory) => refuse(alloc, say, Status::NoMemory),
     }

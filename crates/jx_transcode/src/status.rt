@@ -1,6 +1,34 @@
 //! How a run ended, and what it tells.
 
 use jx_rounds::TapeEntry;
+use jx_same::Spot;
+
+/// Why two files aren't the same, or can't be compared.
+#[derive(Clone, Copy, Debug, PartialEq, Eq)]
+pub enum Unlike {
+    /// They mean something else: the first value that differs.
+    Differs(Spot),
+    /// The first is accepted, and the second violates a rule: its number, and the place of the byte.
+    SecondRule { number: u8, place: u64 },
+    /// The first is accepted, and the second passes a limit: its number, and what was counted.
+    SecondLimit { number: u8, found: u128 },
+}
+
+impl Unlike {
+    ghost use Rattle.std.specs.Prelude.{◌≡◌};
+    ghost use Rattle.jx_transcode.specs.SameLines.{unlike_number};
+
+    /// The number with which the program ends.
+    fn number(self) -> u8
+        ensures { result ≡ unlike_number self }
+    {
+        match self {
+            Unlike::Differs(_) => 11,
+            Unlike::SecondRule { .. } => 12,
+            Unlike::SecondLimit { .. } => 13,
+        }
+    }
+}
 
 /// How a run ended.
 #[derive(Clone, Copy, Debug, PartialEq, Eq)]
@@ -17,6 +45,8 @@ pub enum Status {
     Choice { number: u8, place: u32 },
     /// A block was to be coded anew, and one of its segmentation symbols is wrong: its number.
     Block { number: u32 },
+    /// Two files aren't the same, or the second can't be compared with the first.
+    Unlike(Unlike),
     /// The input couldn't be opened or read.
     ReadFault,
     /// The output couldn't be created, written or finished, or the line couldn't be said.
@@ -50,6 +80,7 @@ impl Status {
             Status::Limit { .. } => 4,
             Status::Choice { .. } => 5,
             Status::Block { .. } => 6,
+            Status::Unlike(how) => how.number(),
             Status::ReadFault => 7,
             Status::WriteFault => 8,
             Status::NoMemory => 9,
@@ -62,7 +93,7 @@ impl Status {
 pub struct Report {
     /// How the run ended.
     pub status: Status,
-    /// The code-blocks of the input once it was accepted, else 0.
+    /// The code-blocks of the input once it was accepted, of the first where two were compared, else 0.
     pub blocks: u32,
     /// The blocks of all rounds that were written, in their order.
     pub tape: Vec<TapeEntry>,

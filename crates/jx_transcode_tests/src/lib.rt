@@ -24,6 +24,8 @@ mod run_tests;
 #[cfg(test)]
 mod runs;
 #[cfg(test)]
+mod same_tests;
+#[cfg(test)]
 mod say_tests;
 #[cfg(test)]
 mod style_tests;

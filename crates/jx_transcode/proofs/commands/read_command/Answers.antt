@@ -7,6 +7,7 @@ returns-in-Ok-clause-asks c = (
   c.in-Ok.ensures.good,
   c.commands_are_apart.ensures.make (map string_bytes c.args.words.now) c.in-Ok.ensures.good,
   c.commands_are_apart.ensures.boxes (map string_bytes c.args.words.now) c.in-Ok.ensures.good,
+  (c.commands_are_apart.ensures.same (map string_bytes c.args.words.now)).0 c.in-Ok.ensures.good,
   c.in-Ok.ensures.value,
 )
 
@@ -18,6 +19,7 @@ returns-in-Ok-read_make-clause-asks c = (
   c.in-Err-Words.ensures.words (rw c.in-Err-Words.field-0-is refl),
   c.in-Ok-read_make.ensures.good,
   c.commands_are_apart.ensures.others (map string_bytes c.args.words.now) c.in-Ok-read_make.ensures.good,
+  (c.commands_are_apart.ensures.same (map string_bytes c.args.words.now)).1 c.in-Ok-read_make.ensures.good,
   c.asked.view_is ∙ c.in-Ok-read_make.ensures.value,
 )
 
@@ -29,12 +31,23 @@ returns-in-Ok-read_boxes-clause-asks c = (
   c.in-Err-Words.ensures.words (rw c.in-Err-Words.field-0-is refl),
   c.in-Err-Words-read_make.ensures.words (rw c.in-Err-Words-read_make.field-0-is refl),
   c.in-Ok-read_boxes.ensures.good,
+  (c.commands_are_apart.ensures.same (map string_bytes c.args.words.now)).2 c.in-Ok-read_boxes.ensures.good,
   c.in-Ok-read_boxes.ensures.value,
+)
+
+pub returns-in-Ok-read_same-clause-asks : goal.returns-in-Ok-read_same-clause-asks
+returns-in-Ok-read_same-clause-asks c = (
+  c.in-Err-Words.ensures.words (rw c.in-Err-Words.field-0-is refl),
+  c.in-Err-Words-read_make.ensures.words (rw c.in-Err-Words-read_make.field-0-is refl),
+  c.in-Err-Words-read_boxes.ensures.words (rw c.in-Err-Words-read_boxes.field-0-is refl),
+  c.in-Ok-read_same.ensures.good,
+  c.in-Ok-read_same.ensures.value,
 )
 
 pub returns-in-Err-clause-words : goal.returns-in-Err-clause-words
 returns-in-Err-clause-words c = λ words. (
   c.in-Err-Words.ensures.words (rw c.in-Err-Words.field-0-is refl),
   c.in-Err-Words-read_make.ensures.words (rw c.in-Err-Words-read_make.field-0-is refl),
+  c.in-Err-Words-read_boxes.ensures.words (rw c.in-Err-Words-read_boxes.field-0-is refl),
   c.in-Err.ensures.words (same_fault _ _ words),
 )

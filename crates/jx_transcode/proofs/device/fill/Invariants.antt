@@ -10,6 +10,7 @@ invariant-loop-filled g l = record {
   reading : IsTrue (g.F.Files.meaning l.files).reading;
   within : l.filled ≤ vec_len l.bytes;
   fits : vec_len l.bytes ≤ 268435457;
+  opens : Allows (g.F.Files.can_open l.initial.files) (g.F.Files.can_open l.files);
   creates : Allows (g.F.Files.can_create l.initial.files) (g.F.Files.can_create l.files);
   unrisen : g.F.Files.read_faults l.files ≡ g.F.Files.read_faults l.initial.files;
   other : g.F.Files.write_faults l.files ≡ g.F.Files.write_faults l.initial.files;

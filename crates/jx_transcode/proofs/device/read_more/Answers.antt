@@ -18,3 +18,6 @@ returns-clause-cause g c = c.read_on.ensures.cause
 
 pub returns-clause-creates : goal.returns-clause-creates
 returns-clause-creates g c = c.read_on.ensures.creates
+
+pub returns-clause-opens : goal.returns-clause-opens
+returns-clause-opens g c = c.read_on.ensures.opens

@@ -1,0 +1,136 @@
+//! The first value in which two codestreams differ, in words.
+ghost use Rattle.std.specs.Prelude.{◌≡◌, IfOk, string_bytes};
+ghost use Rattle.jx_messages.specs.Differences.{band_words, column_words, component_words, differs_sentence, field_section, field_words, place_words, step_words, tile_words};
+
+use jx_base::Band;
+use jx_same::{Field, Spot};
+use std::alloc::{AllocError, Global};
+
+/// A field.
+fn field_words(field: Field) -> &'static str
+    ensures { result.now ≡ field_words field }
+{
+    match field {
+        Field::Canvas => "the picture's size, its offset or its tiles",
+        Field::Components => "the number of components",
+        Field::Depth => "the samples' depth or sign",
+        Field::Sampling => "the subsampling",
+        Field::Levels => "the decomposition levels",
+        Field::Wavelet => "the wavelet",
+        Field::Transform => "the component transform",
+        Field::Quant => "the style of quantization",
+        Field::Guard => "the guard bits",
+        Field::Shift => "the shift of a region of interest",
+        Field::Exponent => "the exponent of the step",
+        Field::Mantissa => "the mantissa of the step",
+        Field::Coef => "the coefficient",
+    }
+}
+
+/// Where T.800 speaks of a field.
+fn field_section(field: Field) -> &'static str
+    ensures { result.now ≡ field_section field }
+{
+    match field {
+        Field::Canvas => "B.2",
+        Field::Components => "A.5.1",
+        Field::Depth => "A.5.1",
+        Field::Sampling => "A.5.1",
+        Field::Levels => "A.6.1",
+        Field::Wavelet => "A.6.1",
+        Field::Transform => "A.6.1",
+        Field::Quant => "A.6.4",
+        Field::Guard => "A.6.4",
+        Field::Shift => "A.6.3",
+        Field::Exponent => "E.1",
+        Field::Mantissa => "E.1",
+        Field::Coef => "D",
+    }
+}
+
+fn band_words(band: Band) -> &'static str
+    ensures { result.now ≡ band_words band }
+{
+    match band {
+        Band::LL => "LL",
+        Band::HL => "HL",
+        Band::LH => "LH",
+        Band::HH => "HH",
+    }
+}
+
+/// Of a component.
+fn component_text(alloc: Global, spot: Spot) -> Result<String, AllocError>
+    ensures { IfOk result (λ text. string_bytes text ≡ component_words spot) }
+{
+    let comp = spot.comp;
+    format!(in alloc; " of component {comp}")
+}
+
+/// Of a component in a tile.
+fn tile_text(alloc: Global, spot: Spot) -> Result<String, AllocError>
+    ensures { IfOk result (λ text. string_bytes text ≡ tile_words spot) }
+{
+    let comp = spot.comp;
+    let tile = spot.tile;
+    format!(in alloc; " of component {comp} in tile {tile}")
+}
+
+/// Of a band.
+fn step_text(alloc: Global, spot: Spot) -> Result<String, AllocError>
+    ensures { IfOk result (λ text. string_bytes text ≡ step_words spot) }
+{
+    let band = band_words(spot.band);
+    let res = spot.res;
+    let comp = spot.comp;
+    let tile = spot.tile;
+    format!(in alloc; " of band {band},\n    resolution {res}, component {comp}, tile {tile}")
+}
+
+/// In a band.
+fn column_text(alloc: Global, spot: Spot) -> Result<String, AllocError>
+    ensures { IfOk result (λ text. string_bytes text ≡ column_words spot) }
+{
+    let step = step_text(alloc, spot)?;
+    let x = spot.x;
+    let y = spot.y;
+    format!(in alloc; " in column {x}, row {y}{step}")
+}
+
+/// Where a value stands, as far as its field has a place.
+fn place_text(alloc: Global, spot: Spot) -> Result<String, AllocError>
+    ensures { IfOk result (λ text. string_bytes text ≡ place_words spot.field spot) }
+{
+    match spot.field {
+        Field::Canvas => String::from_str(alloc, ""),
+        Field::Components => String::from_str(alloc, ""),
+        Field::Depth => component_text(alloc, spot),
+        Field::Sampling => component_text(alloc, spot),
+        Field::Levels => tile_text(alloc, spot),
+        Field::Wavelet => tile_text(alloc, spot),
+        Field::Transform => tile_text(alloc, spot),
+        Field::Quant => tile_text(alloc, spot),
+        Field::Guard => tile_text(alloc, spot),
+        Field::Shift => tile_text(alloc, spot),
+        Field::Exponent => step_text(alloc, spot),
+        Field::Mantissa => step_text(alloc, spot),
+        Field::Coef => column_text(alloc, spot),
+    }
+}
+
+/// Two files that aren't the same, by the first value that differs.
+pub(crate) fn differs_text(
+    alloc: Global,
+    spot: Spot,
+    first: &str,
+    second: &str,
+) -> Result<String, AllocError>
+    ensures { IfOk result (λ text. string_bytes text ≡ differs_sentence first.now second.now spot) }
+{
+    let what = field_words(spot.field);
+    let place = place_text(alloc, spot)?;
+    let section = field_section(spot.field);
+    format!(in alloc;
+        "jx: {first} and {second} aren't the same; the first value that differs is\n    {what}{place} (T.800 {section})\n"
+    )
+}

@@ -1,0 +1,76 @@
+-- What a written file keeps, it means.
+use Rattle.std.proofs.Common.{◌≡◌, ◌≤◌, ◌==◌, ◌&&◌, ◌∙◌, Bool, true, false, ℕ, List, [], ◌∷◌, length, None, ap, refl, sym}
+use Rattle.std.specs.List.{find}
+use Rattle.std.proofs.lemmas.Bool.{and_from, eq-eqb}
+use Rattle.jx_codestream.specs.Shapes.{size_in}
+use Rattle.jx_marker.specs.declared.Siz.{Siz}
+use Rattle.jx_tier1_specs.specs.declared.coef.Coef.{Coef}
+use Rattle.jx_tile.specs.Totals.{totals_fault}
+use Rattle.jx_plan.specs.Meaning.{Meaning, meaning_of}
+use Rattle.jx_plan.specs.Planned.{blocks_written}
+use Rattle.jx_codestream.specs.declared.Stream.{Stream}
+use Rattle.jx_same.specs.Items.{agree, answer_at, answer_of, coef_at_spot, component_at, differs, items_of, same_canvas, same_coef, same_sign, step_at}
+use Rattle.jx_same.specs.declared.answer.Answer.TheVariants as answer
+use Rattle.jx_same.specs.declared.answer.Field.{Field}
+use Rattle.jx_same.specs.declared.answer.Field.TheVariants as field
+use Rattle.jx_same.specs.declared.answer.Spot.{Spot}
+use Rattle.jx_transcode.specs.Aims.{Aim}
+use Rattle.jx_transcode.specs.Outcome.{most_bytes}
+use Rattle.jx_transcode.specs.Rewritten.{IsKept}
+use Rattle.jx_transcode.specs.SameRun.{HasCodestream, SameVerdict}
+use Rattle.jx_transcode.specs.declared.status.Status.TheVariants as status
+
+-- ---- a meaning and itself
+same_number : (n : ℕ) → (n == n) ≡ true
+same_number n = eq-eqb n n refl
+
+both : (x y : ℕ) → (x == x && y == y) ≡ true
+both x y = and_from (x == x) (y == y) (same_number x) (same_number y)
+
+canvas_self : (z : Siz) → same_canvas z z ≡ true
+canvas_self z =
+    and_from ((z.x1 == z.x1 && z.y1 == z.y1) && (z.x0 == z.x0 && z.y0 == z.y0)) ((z.tw == z.tw && z.th == z.th) && (z.tx == z.tx && z.ty == z.ty))
+    (and_from (z.x1 == z.x1 && z.y1 == z.y1) (z.x0 == z.x0 && z.y0 == z.y0) (both z.x1 z.y1) (both z.x0 z.y0))
+    (and_from (z.tw == z.tw && z.th == z.th) (z.tx == z.tx && z.ty == z.ty) (both z.tw z.th) (both z.tx z.ty))
+
+sign_self : (b : Bool) → same_sign b b ≡ true
+sign_self true = refl
+sign_self false = refl
+
+coef_self : (c : Coef) → same_coef c c ≡ true
+coef_self c = and_from (same_sign c.negative c.negative) (c.bits == c.bits && c.planes == c.planes) (sign_self c.negative) (both c.bits c.planes)
+
+agree_self : (f : Field) (m : Meaning) (s : Spot) → agree f m m s ≡ true
+agree_self field.Canvas m s = canvas_self m.siz
+agree_self field.Components m s = same_number (length m.siz.comps)
+agree_self field.Depth m s = same_number (size_in m.siz s.comp).ssiz
+agree_self field.Sampling m s = both (size_in m.siz s.comp).dx (size_in m.siz s.comp).dy
+agree_self field.Levels m s = same_number (component_at m s).levels
+agree_self field.Wavelet m s = same_number (component_at m s).wavelet
+agree_self field.Transform m s = same_number (component_at m s).transform
+agree_self field.Quant m s = same_number (component_at m s).quant
+agree_self field.Guard m s = same_number (component_at m s).guard
+agree_self field.Shift m s = same_number (component_at m s).shift
+agree_self field.Exponent m s = same_number (step_at m s).0
+agree_self field.Mantissa m s = same_number (step_at m s).1
+agree_self field.Coef m s = coef_self (coef_at_spot m s)
+
+self_none : (m : Meaning) (items : List Spot) → find (differs m m) items ≡ None
+self_none m [] = refl
+self_none m (s ∷ items) = let e : agree s.field m m s ≡ true = agree_self s.field m s in rw e (self_none m items)
+
+one_answer : (s : Stream) (a b : Meaning) → b ≡ a → answer.Same ≡ answer_of s a b
+one_answer s a b same = sym (ap (answer_of s a) same ∙ ap answer_at (self_none a (items_of s)))
+
+-- ---- an input and what was written of it
+pub kept_same : (aim : Aim) (input out inner again : List ℕ) (from to : ℕ) (kept : IsKept aim inner again) → length input ≤ most_bytes → length out ≤ most_bytes → HasCodestream input from inner → HasCodestream out to again
+    → totals_fault kept.after ≡ None → SameVerdict input out status.Done
+kept_same aim input out inner again from to kept short short_out has has_out within = record {
+  stream = kept.before;
+  blocks = kept.blocks;
+  accepted = record { within = short; from = from; inner = inner; has = has; reads = kept.reads };
+  other = kept.after;
+  others = blocks_written aim.wanted kept.by kept.before kept.blocks;
+  accepted_too = record { within = short_out; from = to; inner = again; has = has_out; reads = record { read = kept.kept.read; totals = within; gathered = kept.kept.gathered } };
+  is = one_answer kept.before (meaning_of kept.before kept.blocks) (meaning_of kept.after (blocks_written aim.wanted kept.by kept.before kept.blocks)) kept.kept.meaning;
+}

@@ -1,0 +1,198 @@
+-- How a run of `same` ends: two files are read, either of which may be a JP2 file, and one line says whether their codestreams mean the
+-- same, or why that can't be said (ITU-T T.800, Annexes A, B, D and E; I.4).
+use Rattle.std.specs.Prelude.{◌≡◌, ◌⊎◌, ◌<◌, ◌≤◌, ℕ, ◌+◌, List, [], length, Option, IfSome, Result, Ok, Err, codes}
+use Rattle.jx_base.specs.declared.pieces.Block.{Block}
+use Rattle.jx_io.specs.Device.{Meaning, joined}
+use Rattle.jx_cli.specs.SameWords.{Pair}
+use Rattle.jx_cli.specs.Words.{Text}
+use Rattle.jx_codestream.specs.declared.Stream.{Stream}
+use Rattle.jx_jp2.specs.declared.Boxed.{Boxed}
+use Rattle.jx_jp2.specs.Codestream.{IsCodestream, IsJp2, IsNextFault, content}
+use Rattle.jx_plan.specs.Meaning.{meaning_of}
+use Rattle.jx_same.specs.Items.{answer_of}
+use Rattle.jx_same.specs.declared.answer.Answer.{Answer}
+use Rattle.jx_same.specs.declared.answer.Answer.TheVariants as answer
+use Rattle.jx_transcode.specs.Judged.{Passes, Violates}
+use Rattle.jx_transcode.specs.Outcome.{IsUntouched, IsVerdict, Says, line_of, most_bytes}
+use Rattle.jx_transcode.specs.Rewritten.{Reads}
+use Rattle.jx_transcode.specs.declared.status.Status.{Status}
+use Rattle.jx_transcode.specs.declared.status.Status.TheVariants as status
+use Rattle.jx_transcode.specs.declared.status.Unlike.TheVariants as unlike
+use Rattle.jx_rounds.specs.declared.tape.TapeEntry.{TapeEntry}
+
+-- ---- what a file is judged before anything is made of it
+-- a file's codestream begins at this byte, and these are its bytes: those of the file, or of its first codestream box
+abbrev pub HasCodestream : List ℕ → ℕ → List ℕ → Type 0
+HasCodestream input from inner =
+    ((IsJp2 input → ⊥) × (from ≡ 0) × (inner ≡ input))
+    ⊎ (IsJp2 input × (boxed : Boxed) × IsCodestream input boxed × (from ≡ boxed.from) × (inner ≡ content input boxed))
+
+-- a file of at most 2^28 bytes with a well-formed codestream within the limits
+pub record IsAccepted (input : List ℕ) (s : Stream) (blocks : List Block) : Type 0 where
+  pub within : length input ≤ most_bytes
+  pub from : ℕ
+  pub inner : List ℕ
+  pub has : HasCodestream input from inner
+  pub reads : Reads inner s blocks
+
+-- the first rule that is violated: for a JP2 file one of the rules 32 to 35, then those of the codestream; the place is the file's
+abbrev pub BreaksRule : List ℕ → ℕ → ℕ → Type 0
+BreaksRule input number place =
+    (length input ≤ most_bytes)
+    × ((IsJp2 input × IsNextFault input 0 number place)
+    ⊎ ((from : ℕ) × (inner : List ℕ) × (at : ℕ) × HasCodestream input from inner × (place ≡ from + at) × Violates inner number at))
+
+-- limit 1, or the limit that the codestream passes first
+abbrev pub BreaksLimit : List ℕ → ℕ → ℕ → Type 0
+BreaksLimit input number found =
+    ((most_bytes < length input) × (number ≡ 1) × (found ≡ most_bytes + 1))
+    ⊎ ((length input ≤ most_bytes) × (from : ℕ) × (inner : List ℕ) × HasCodestream input from inner × Passes inner number found)
+
+abbrev pub IsGoodInput : List ℕ → Type 0
+IsGoodInput input = (s : Stream) × (blocks : List Block) × IsAccepted input s blocks
+
+-- ---- the verdict on two files
+-- both are accepted, and this is the answer over the meanings of their codestreams
+pub record AreAnswered (first second : List ℕ) (told : Answer) : Type 0 where
+  pub stream : Stream
+  pub blocks : List Block
+  pub accepted : IsAccepted first stream blocks
+  pub other : Stream
+  pub others : List Block
+  pub accepted_too : IsAccepted second other others
+  pub is : told ≡ answer_of stream (meaning_of stream blocks) (meaning_of other others)
+
+-- the status that two files have where nothing fails: the first's refusal, then the second's, then the answer
+abbrev pub SameVerdict : List ℕ → List ℕ → Status → Type 0
+SameVerdict first second status.Done = AreAnswered first second answer.Same
+SameVerdict first second (status.Rule number place) = BreaksRule first number place
+SameVerdict first second (status.Limit number found) = BreaksLimit first number found
+SameVerdict first second (status.Unlike (unlike.Differs spot)) = AreAnswered first second (answer.Differs spot)
+SameVerdict first second (status.Unlike (unlike.SecondRule number place)) = IsGoodInput first × BreaksRule second number place
+SameVerdict first second (status.Unlike (unlike.SecondLimit number found)) = IsGoodInput first × BreaksLimit second number found
+SameVerdict first second status.Words = ⊥
+SameVerdict first second (status.Choice number place) = ⊥
+SameVerdict first second (status.Block number) = ⊥
+SameVerdict first second status.ReadFault = ⊥
+SameVerdict first second status.WriteFault = ⊥
+SameVerdict first second status.NoMemory = ⊥
+
+-- ---- how a run ends
+abbrev pub same_line : Status → List ℕ
+same_line status.Done = codes "same\n"
+same_line s = line_of s 0 0
+
+-- how many blocks the first file has
+pub record HasBlocksOf (first : List ℕ) (count : ℕ) : Type 0 where
+  pub stream : Stream
+  pub blocks : List Block
+  pub accepted : IsAccepted first stream blocks
+  pub count_is : count ≡ length blocks
+
+-- the blocks that are told: those of the first file after an answer, else none
+abbrev pub TellsBlocks : List ℕ → Status → ℕ → Type 0
+TellsBlocks first status.Done blocks = HasBlocksOf first blocks
+TellsBlocks first (status.Unlike (unlike.Differs spot)) blocks = HasBlocksOf first blocks
+TellsBlocks first s blocks = blocks ≡ 0
+
+-- how a run over good words of `same` ends on two inputs, which are what the files of these names hold, where that is told
+pub record EndsCompared (names : Pair) (s : Status) (blocks : ℕ) (entries : List TapeEntry) (old new : Meaning) (before now : Option (List ℕ)) : Type 0 where
+  pub first : List ℕ
+  pub second : List ℕ
+  pub told : IfSome (joined (old.holds names.first)) (λ bytes. first ≡ bytes)
+  pub told_too : IfSome (joined (old.holds names.second)) (λ bytes. second ≡ bytes)
+  pub verdict : IsVerdict s → SameVerdict first second s
+  pub counts : TellsBlocks first s blocks
+  pub said : Says s (same_line s) before now
+  pub files : IsUntouched old new
+  pub tape : entries ≡ []
+
+-- the first file was refused by a rule or a limit
+abbrev pub IsOfFirst : Status → Type 0
+IsOfFirst s = ((number : ℕ) × (place : ℕ) × (s ≡ status.Rule number place)) ⊎ ((number : ℕ) × (found : ℕ) × (s ≡ status.Limit number found))
+
+-- ---- inner: what is known before anything is said
+-- why a file is refused; want of memory is free
+abbrev pub IsUnfit : List ℕ → Status → Type 0
+IsUnfit input (status.Rule number place) = BreaksRule input number place
+IsUnfit input (status.Limit number found) = BreaksLimit input number found
+IsUnfit input status.NoMemory = Unit {0}
+IsUnfit input status.Done = ⊥
+IsUnfit input status.Words = ⊥
+IsUnfit input (status.Choice number place) = ⊥
+IsUnfit input (status.Block number) = ⊥
+IsUnfit input (status.Unlike how) = ⊥
+IsUnfit input status.ReadFault = ⊥
+IsUnfit input status.WriteFault = ⊥
+
+-- the same of the second file
+abbrev pub second_status : Status → Status
+second_status (status.Rule number place) = status.Unlike (unlike.SecondRule number place)
+second_status (status.Limit number found) = status.Unlike (unlike.SecondLimit number found)
+second_status status.NoMemory = status.NoMemory
+second_status status.Done = status.Done
+second_status status.Words = status.Words
+second_status (status.Choice number place) = status.Choice number place
+second_status (status.Block number) = status.Block number
+second_status (status.Unlike how) = status.Unlike how
+second_status status.ReadFault = status.ReadFault
+second_status status.WriteFault = status.WriteFault
+
+-- the status of an answer, or where memory was refused
+abbrev pub answer_status : {E : Type 0} → Result Answer E → Status
+answer_status (Ok answer.Same) = status.Done
+answer_status (Ok (answer.Differs spot)) = status.Unlike (unlike.Differs spot)
+answer_status (Err e) = status.NoMemory
+
+-- a codestream is answered by the second file
+pub record IsAnsweredBy (s : Stream) (blocks : List Block) (second : List ℕ) (told : Answer) : Type 0 where
+  pub other : Stream
+  pub others : List Block
+  pub accepted : IsAccepted second other others
+  pub is : told ≡ answer_of s (meaning_of s blocks) (meaning_of other others)
+
+-- the status of a second file beside a codestream; a fault of reading and want of memory are free
+abbrev pub SecondVerdict : Stream → List Block → List ℕ → Status → Type 0
+SecondVerdict s blocks second status.Done = IsAnsweredBy s blocks second answer.Same
+SecondVerdict s blocks second (status.Unlike (unlike.Differs spot)) = IsAnsweredBy s blocks second (answer.Differs spot)
+SecondVerdict s blocks second (status.Unlike (unlike.SecondRule number place)) = BreaksRule second number place
+SecondVerdict s blocks second (status.Unlike (unlike.SecondLimit number found)) = BreaksLimit second number found
+SecondVerdict s blocks second status.ReadFault = Unit {0}
+SecondVerdict s blocks second status.NoMemory = Unit {0}
+SecondVerdict s blocks second status.Words = ⊥
+SecondVerdict s blocks second (status.Rule number place) = ⊥
+SecondVerdict s blocks second (status.Limit number found) = ⊥
+SecondVerdict s blocks second (status.Choice number place) = ⊥
+SecondVerdict s blocks second (status.Block number) = ⊥
+SecondVerdict s blocks second status.WriteFault = ⊥
+
+pub record IsSecondTold (name : Text) (s : Stream) (blocks : List Block) (t : Status) (old new : Meaning) : Type 0 where
+  pub second : List ℕ
+  pub told : IfSome (joined (old.holds name)) (λ bytes. second ≡ bytes)
+  pub verdict : SecondVerdict s blocks second t
+  pub files : IsUntouched old new
+
+-- the blocks that are told, by how many the first file has
+abbrev pub blocks_after : Status → ℕ → ℕ
+blocks_after status.Done count = count
+blocks_after (status.Unlike (unlike.Differs spot)) count = count
+blocks_after (status.Unlike (unlike.SecondRule number place)) count = 0
+blocks_after (status.Unlike (unlike.SecondLimit number found)) count = 0
+blocks_after status.Words count = 0
+blocks_after (status.Rule number place) count = 0
+blocks_after (status.Limit number found) count = 0
+blocks_after (status.Choice number place) count = 0
+blocks_after (status.Block number) count = 0
+blocks_after status.ReadFault count = 0
+blocks_after status.WriteFault count = 0
+blocks_after status.NoMemory count = 0
+
+-- what is known of both files
+pub record IsToTell (names : Pair) (s : Status) (count : ℕ) (old new : Meaning) : Type 0 where
+  pub first : List ℕ
+  pub second : List ℕ
+  pub told : IfSome (joined (old.holds names.first)) (λ bytes. first ≡ bytes)
+  pub told_too : IfSome (joined (old.holds names.second)) (λ bytes. second ≡ bytes)
+  pub verdict : IsVerdict s → SameVerdict first second s
+  pub counts : TellsBlocks first s (blocks_after s count)
+  pub files : IsUntouched old new
