@@ -17,12 +17,7 @@ fn input(alloc: Global, name: &str, done: &str, cause: &str) -> Result<String, A
 }
 
 /// The same of the files that are read.
-fn inputs(
-    alloc: Global,
-    words: &[String],
-    done: &str,
-    cause: &str,
-) -> Result<String, AllocError>
+fn inputs(alloc: Global, words: &[String], done: &str, cause: &str) -> Result<String, AllocError>
     ensures { IfOk result (λ text. string_bytes text ≡ input_words (inputs_in (map string_bytes words.now)) done.now cause.now) }
 {
     let names = inputs_of(alloc, words)?;

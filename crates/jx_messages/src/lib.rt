@@ -18,8 +18,8 @@ mod words;
 
 pub use faults::explain_fault;
 pub use help::help_of;
-pub use notes::note_positions;
 use jx_same::Spot;
+pub use notes::note_positions;
 pub use sentence::explain;
 
 /// Why a run was refused.

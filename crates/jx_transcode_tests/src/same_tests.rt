@@ -34,7 +34,14 @@ fn all_stop(
 ) -> Result<(), Fail> {
     for (second, edit, status, blocks, line) in rows {
         let bytes = spliced(rt.alloc(), &SMALL, &[*edit])?;
-        stops(rt, &["jx", "same", "in", second], &bytes, *status, *blocks, line)?;
+        stops(
+            rt,
+            &["jx", "same", "in", second],
+            &bytes,
+            *status,
+            *blocks,
+            line,
+        )?;
     }
     Ok(())
 }

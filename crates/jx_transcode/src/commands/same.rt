@@ -42,12 +42,8 @@ fn second_status(status: Status) -> Status
     ensures { result ≡ second_status status }
 {
     match status {
-        Status::Rule { number, place } => {
-            Status::Unlike(Unlike::SecondRule { number, place })
-        }
-        Status::Limit { number, found } => {
-            Status::Unlike(Unlike::SecondLimit { number, found })
-        }
+        Status::Rule { number, place } => { Status::Unlike(Unlike::SecondRule { number, place }) }
+        Status::Limit { number, found } => { Status::Unlike(Unlike::SecondLimit { number, found }) }
         other => other,
     }
 }
