@@ -20,7 +20,10 @@ overflow_cast-read g c = omega (
 )
 
 pub overflow_cast-count : goal.overflow_cast-count
-overflow_cast-count g c = omega (arith, jobs_few c.in-Ok-plan_served.plan c.jobs.ensures.plan, ap (λ (js : List Job). length js) c.jobs.ensures.value)
+overflow_cast-count g c = omega (arith, jobs_few c.in-Ok-plan_served.plan c.jobs-jobs.ensures.plan, ap (λ (js : List Job). length js) c.jobs-jobs.ensures.value)
+
+pub anew_in-requires : goal.anew_in-requires
+anew_in-requires g c = omega (arith, jobs_few c.in-Ok-plan_served.plan c.jobs-jobs.ensures.plan, ap (λ (js : List Job). length js) c.jobs-jobs.ensures.value)
 
 pub returns-in-Err-clause-answer : goal.returns-in-Err-clause-answer
 returns-in-Err-clause-answer g c =
@@ -57,7 +60,7 @@ returns-clause-answer g c =
     rw (c.ending_of.ensures.blocks, c.ending_of.ensures.tape)
     (answered_by_plan laws c.args.to.now c.args.crew.now.work _ c.args.input.now c.args.stream.now c.in-Ok.blocks.items c.in-Ok-plan_served.plan c.write_file-written.result
     c.ending_of.result.status _ c.ending_of.result.bytes _ _ _ c.requires.wanted (rw (sym (c.shortened.ensures ∙ c.deref-read.ensures.value)) c.in-Ok-plan_served.ensures.planned)
-    (carried_out c.in-Ok-plan_served.plan c.args.to.now c.args.crew.now.work c.write_file-written.result _ _ _ _ c.jobs.ensures.plan (ap (λ (js : List Job). length js) c.jobs.ensures.value)
+    (carried_out c.in-Ok-plan_served.plan c.args.to.now c.args.crew.now.work c.write_file-written.result _ _ _ _ c.jobs-jobs.ensures.plan (ap (λ (js : List Job). length js) c.jobs-jobs.ensures.value)
     c.write_file-written.ensures.tape c.write_file-written.ensures.whole c.write_file-written.ensures.taped c.write_file-written.ensures.ok c.write_file-written.ensures.err)
     c.ending_of.ensures.ends c.requires.within
     (reads_of c.args.input.now c.args.stream.now c.in-Ok.blocks.items c.requires.read c.in-Ok.ensures.totals c.in-Ok.ensures.gathered))
