@@ -75,12 +75,19 @@ pub enum Name {
 /// A word that is a value.
 #[derive(Clone, Copy, Debug, PartialEq, Eq)]
 pub enum Word {
+    /// Samples without a sign.
     Unsigned,
+    /// Samples with a sign.
     Signed,
+    /// Layer, resolution, component, position.
     Lrcp,
+    /// Resolution, layer, component, position.
     Rlcp,
+    /// Resolution, position, component, layer.
     Rpcl,
+    /// Position, component, resolution, layer.
     Pcrl,
+    /// Component, position, resolution, layer.
     Cprl,
     /// The 9-7 wavelet.
     Irreversible,
@@ -97,14 +104,19 @@ pub enum Word {
 /// What is told.
 #[derive(Clone, Copy, Debug, PartialEq, Eq)]
 pub enum Value {
+    /// A number.
     Count(u128),
     /// Columns and rows.
     Size(u32, u32),
     /// A column and a row.
     Place(u32, u32),
+    /// Whether it is so.
     Holds(bool),
+    /// A word.
     Word(Word),
+    /// A style of code-blocks, by its bits (T.800, Table A.19).
     Style(Style),
+    /// An entry of a POC segment (A.6.6).
     Entry(Progression),
 }
 
@@ -122,7 +134,10 @@ pub struct About {
 /// One fact.
 #[derive(Clone, Copy, Debug, PartialEq, Eq)]
 pub struct Fact {
+    /// What it tells.
     pub name: Name,
+    /// Of what.
     pub about: About,
+    /// What is told.
     pub value: Value,
 }

@@ -6,7 +6,7 @@ ghost use Rattle.jx_show.specs.Text.{name_text, order_word, word_text};
 
 use crate::{Name, Word};
 
-/// What a fact of the picture, its components and its tiles is called.
+/// What a fact is called.
 #[tactic(auto, unfolding(crate::specs::Text::name_text))]
 pub(crate) fn name_text(name: Name) -> &'static str
     ensures { result.now ≡ name_text name }
