@@ -1,0 +1,140 @@
+//! How many packets, code-blocks, tile-parts and segments there are.
+
+ghost use Rattle.std.specs.Prelude.{◌≡◌, ◌<◌, ◌^◌, ◌++◌, OnOk};
+ghost use Rattle.std.specs.List.{All};
+ghost use Rattle.jx_base.specs.Joined.{sum_below};
+ghost use Rattle.jx_base.specs.Sound.{IsSound};
+ghost use Rattle.jx_codestream.specs.First.{tile_number};
+ghost use Rattle.jx_codestream.specs.InRange.{StreamInRange};
+ghost use Rattle.jx_show.specs.Facts.{comments_of_tile, count_fact, is_marked, lengths_of_tile, marked_in, stands_fact, total_facts};
+
+use crate::bytes::all_bytes;
+use crate::headers::parts_of_tile;
+use crate::picture::{fact, of_tile};
+use crate::{Fact, Name, Value};
+use jx_base::{Block, NoMemory};
+use jx_codestream::Stream;
+use jx_marker::Segment;
+use jx_tile::count_all;
+use std::alloc::Global;
+
+/// Segments that are counted.
+#[derive(Clone, Copy)]
+pub enum Mark {
+    Plt,
+    Plm,
+    Tlm,
+    Com,
+}
+
+fn is_marked(mark: Mark, segment: &Segment) -> bool
+    ensures { result ≡ is_marked mark segment.now }
+{
+    match mark {
+        Mark::Plt => matches!(segment, Segment::Plt(_)),
+        Mark::Plm => matches!(segment, Segment::Plm(_)),
+        Mark::Tlm => matches!(segment, Segment::Tlm(_)),
+        Mark::Com => matches!(segment, Segment::Com(_)),
+    }
+}
+
+/// How many segments of a kind a header has.
+fn marked_in(mark: Mark, segments: &[Segment]) -> u64
+    ensures value { result ≡ marked_in mark segments.now }
+{
+    let mut count = 0;
+    for segment in segments {
+        if is_marked(mark, segment) {
+            count += 1;
+        }
+    }
+    count
+}
+
+/// PLT segments in the header of a tile's first tile-part.
+fn lengths_of_tile(stream: &Stream, tile: u16) -> u64
+    requires range { StreamInRange stream.now }
+    requires tile { tile < tile_number stream.now.siz }
+    ensures { result ≡ lengths_of_tile stream.now tile }
+{
+    marked_in(Mark::Plt, stream.tile(tile).header.as_slice())
+}
+
+/// The comments in the headers of a tile's tile-parts.
+fn comments_of_tile(stream: &Stream, tile: u16) -> u128
+    requires range { StreamInRange stream.now }
+    requires tile { tile < tile_number stream.now.siz }
+    ensures value { result ≡ comments_of_tile stream.now tile }
+    ensures most { result < 2 ^ 65 }
+{
+    let tile = stream.tile(tile);
+    u128::from(marked_in(Mark::Com, tile.header.as_slice())) + tile.notes.as_slice().len() as u128
+}
+
+/// PLT segments in the headers of all tiles' first tile-parts.
+fn all_lengths(stream: &Stream) -> u128
+    requires { StreamInRange stream.now }
+    ensures { result ≡ sum_below (lengths_of_tile stream.now) (tile_number stream.now.siz) }
+{
+    let mut count = 0;
+    for tile in 0..stream.tile_count() {
+        count += u128::from(lengths_of_tile(stream, tile));
+    }
+    count
+}
+
+/// The comments in the headers of all tile-parts.
+fn all_comments(stream: &Stream) -> u128
+    requires { StreamInRange stream.now }
+    ensures value { result ≡ sum_below (comments_of_tile stream.now) (tile_number stream.now.siz) }
+    ensures most { result < 2 ^ 81 }
+{
+    let mut count = 0;
+    for tile in 0..stream.tile_count() {
+        count += comments_of_tile(stream, tile);
+    }
+    count
+}
+
+fn count_fact(name: Name, count: u128) -> Fact
+    ensures { result ≡ count_fact name count }
+{
+    fact(name, of_tile(None), Value::Count(count))
+}
+
+fn stands_fact(name: Name, count: u128) -> Fact
+    ensures { result ≡ stands_fact name count }
+{
+    fact(name, of_tile(None), Value::Holds(count > 0))
+}
+
+/// Appends what is counted of the codestream.
+pub(crate) fn push_totals(
+    alloc: Global,
+    facts: &mut Vec<Fact>,
+    stream: &Stream,
+    blocks: &[Block<'_>],
+) -> Result<(), NoMemory>
+    requires range { StreamInRange stream.now }
+    requires sound { All IsSound blocks.now }
+    ensures { OnOk result (facts.new.items ≡ facts.old.items ++ total_facts stream.now blocks.now) }
+{
+    let main = stream.main_view(alloc)?;
+    let packets = count_all(alloc, stream, &main)?.1;
+    drop(main);
+    let segments = stream.main.as_slice();
+    let notes = u128::from(marked_in(Mark::Com, segments));
+    let plm = u128::from(marked_in(Mark::Plm, segments));
+    let tlm = u128::from(marked_in(Mark::Tlm, segments));
+    facts.extend_from_slice(&[
+        count_fact(Name::Packets, packets),
+        count_fact(Name::Blocks, blocks.len() as u128),
+        count_fact(Name::TileParts, parts_of_tile(stream, 0) as u128),
+        stands_fact(Name::Plt, all_lengths(stream)),
+        stands_fact(Name::Plm, plm),
+        stands_fact(Name::Tlm, tlm),
+        count_fact(Name::Comments, notes + all_comments(stream)),
+        count_fact(Name::Bytes, all_bytes(blocks)),
+    ])?;
+    Ok(())
+}
