@@ -83,7 +83,7 @@ raised_misfit precincts from inner input boxed s m same is = subst (λ (b : List
 
 pub misfit_within : (precincts : Option (List ℕ)) (input : List ℕ) (s : Status) (m : Misfit) → IsMisfitOfFile precincts input s m → length input ≤ most_bytes
 misfit_within precincts input s m (inl bare) = bare.1.within
-misfit_within precincts input s m (inr jp2) = jp2.1
+misfit_within precincts input s m (inr jp2) = jp2.1.0
 
 pub misfit_told : (request : Request) (wanted : Wanted) (read : List ℕ) (s late : Status) (old : Meaning) (told : Option Misfit) (m : Misfit) → IsFront (joined (old.holds request.from)) read → wanted ≡ request.wanted
     → IfSome told (λ m. IsMisfitOfFile wanted.precincts read s m) → (told ≡ Some m) × (late ≡ s) → TellsMisfit request m late old
