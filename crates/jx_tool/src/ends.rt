@@ -13,6 +13,7 @@ ghost use Rattle.jx_tool.specs.Ended.{IsEnded, IsHelped, IsEndedBySome, IsSaid, 
 use jx_cli::{WordsFault, read_words};
 use jx_io::{Fault, Files, Progress, Refused, Sink, TellsFault, is_standard_output};
 use jx_layers::{CutLayers, KeepLayers, LayerPlanner, OneLayer, PlaneLayers};
+use jx_plan::Misfit;
 use jx_messages::{Refusal, explain, explain_fault, help_of, note_positions};
 use jx_transcode::{Status, Unlike, run};
 use std::alloc::{AllocError, Global};
@@ -69,14 +70,28 @@ pub(crate) fn says_aside<R: Disk + AllocGlobal>(
     }
 }
 
+/// A choice that can't be had: choice 2 with what is known of the input's own precincts.
+fn choice_of(number: u8, place: u32, misfit: Option<Misfit>) -> Refusal {
+    match misfit {
+        Some(own) => Refusal::Misfit {
+            place,
+            comp: own.comp,
+            res: own.res,
+            across: own.across,
+            down: own.down,
+        },
+        None => Refusal::Choice { number, place },
+    }
+}
+
 /// Why a run was refused; nothing where it is done.
-fn refusal_of(status: Status) -> Option<Refusal> {
+fn refusal_of(status: Status, misfit: Option<Misfit>) -> Option<Refusal> {
     match status {
         Status::Done => None,
         Status::Words => Some(Refusal::Words),
         Status::Rule { number, place } => Some(Refusal::Rule { number, place }),
         Status::Limit { number, found } => Some(Refusal::Limit { number, found }),
-        Status::Choice { number, place } => Some(Refusal::Choice { number, place }),
+        Status::Choice { number, place } => Some(choice_of(number, place, misfit)),
         Status::Block { number } => Some(Refusal::Block { number }),
         Status::Unlike(Unlike::Differs(spot)) => Some(Refusal::Differs(spot)),
         Status::Unlike(Unlike::SecondRule { number, place }) => {
@@ -101,9 +116,10 @@ fn text_of(
     alloc: Global,
     words: &[String],
     status: Status,
+    misfit: Option<Misfit>,
     fault: Option<Fault>,
 ) -> Result<Option<String>, AllocError> {
-    let Some(refusal) = refusal_of(status) else {
+    let Some(refusal) = refusal_of(status, misfit) else {
         return Ok(None);
     };
     match (refusal, fault) {
@@ -115,8 +131,15 @@ fn text_of(
 }
 
 /// Says on standard error why a run was refused. The status stays what it is where that can't be said.
-fn tell<R: Eprint>(rt: &R, alloc: Global, words: &[String], status: Status, fault: Option<Fault>) {
-    if let Ok(Some(text)) = text_of(alloc, words, status, fault) {
+fn tell<R: Eprint>(
+    rt: &R,
+    alloc: Global,
+    words: &[String],
+    status: Status,
+    misfit: Option<Misfit>,
+    fault: Option<Fault>,
+) {
+    if let Ok(Some(text)) = text_of(alloc, words, status, misfit, fault) {
         let _ = rt.eprint(text.as_str());
     }
 }
@@ -154,7 +177,7 @@ fn help<R: Eprint, S: Sink + TellsFault>(
     ensures counted { TellsUnsaid result (S.faults say.old) (S.faults say.new) }
 {
     let status = say_text(say, text);
-    tell(rt, alloc, words, status, say.last_fault());
+    tell(rt, alloc, words, status, None, say.last_fault());
     status
 }
 
@@ -190,7 +213,8 @@ fn end_of<R: Threads + Wait + Sync + Eprint + Clock, F: Files + TellsFault, S: S
     match help_of(alloc, &words) {
         Ok(None) => {
             let report = run(rt, alloc, &words, files, say, progress, planners);
-            tell(rt, alloc, &words, report.status, last_fault(files, say));
+            let fault = last_fault(files, say);
+            tell(rt, alloc, &words, report.status, report.misfit, fault);
             note(rt, alloc, &words, report.positions);
             ExitCode::from(report.status.number())
         }

@@ -13,6 +13,7 @@ mod Jp2Lemmas
 mod AroundLemmas
 mod OutcomeLemmas
 mod PositionsLemmas
+mod MisfitLemmas
 mod OneVerdictLemmas
 mod OneFileLemmas
 mod FileVerdictLemmas

@@ -14,4 +14,5 @@ pub mod Jp2Run
 pub mod Progress
 pub mod Judged
 pub mod Filed
+pub mod Misfits
 pub mod MadeVerdict

@@ -1,6 +1,6 @@
 //! What becomes of a JP2 file: its codestream is rewritten in memory, and the file is written around it (ITU-T T.800, Annex I).
 
-ghost use Rattle.std.specs.Prelude.{◌≡◌, ◌⊎◌, ◌≤◌, ◌<◌, ◌^◌, ℕ, List, [], length, map, IfErr, IfOk, IsErrOf, OnErr, OnOk};
+ghost use Rattle.std.specs.Prelude.{◌≡◌, ◌⊎◌, ◌≤◌, ◌<◌, ◌^◌, ℕ, List, [], length, map, IfErr, IfOk, IfSome, IsErrOf, None, OnErr, OnOk};
 ghost use Rattle.std.specs.List.{concat};
 ghost use Rattle.jx_io.specs.Causes.{Rose};
 ghost use Rattle.jx_jp2.specs.Codestream.{IsCodestream, content};
@@ -11,6 +11,7 @@ ghost use Rattle.jx_rounds.specs.Taken.{SomeFront, followed_by};
 ghost use Rattle.jx_transcode.specs.Filed.{unwritten_as};
 ghost use Rattle.jx_transcode.specs.Jp2Run.{EndsAround, EndsJp2, IsPlaced, file_in, raised};
 ghost use Rattle.jx_transcode.specs.MakeRun.{IsLastMade};
+ghost use Rattle.jx_transcode.specs.Misfits.{IsMisfitOf, IsMisfitOfJp2};
 ghost use Rattle.jx_transcode.specs.Outcome.{IsBegun, IsMade, most_bytes};
 
 use crate::Status;
@@ -119,6 +120,7 @@ fn written_as(written: Result<usize, Refused>, blocks: u32, tape: Vec<TapeEntry>
     ensures err { IfErr written (λ refused. result.status ≡ unwritten_as refused) }
     ensures blocks { result.blocks ≡ blocks }
     ensures tape { result.tape.items ≡ tape.items }
+    ensures misfit { result.misfit ≡ None }
 {
     match written {
         Ok(bytes) => Ending {
@@ -126,12 +128,14 @@ fn written_as(written: Result<usize, Refused>, blocks: u32, tape: Vec<TapeEntry>
             blocks,
             bytes,
             tape,
+            misfit: None,
         },
         Err(refused) => Ending {
             status: unwritten_as(refused),
             blocks,
             bytes: 0,
             tape,
+            misfit: None,
         },
     }
 }
@@ -191,6 +195,7 @@ fn answer_around<R: Threads + Wait + Sync, G: Gate + Sync, F: Files>(
     ensures rose { F.write_faults files.old < F.write_faults files.new → result.status ≡ Status.WriteFault }
     ensures read { (result.status ≡ Status.ReadFault → ⊥) × (result.status ≡ Status.Words → ⊥) }
     ensures other { F.read_faults files.new ≡ F.read_faults files.old }
+    ensures misfit { IfSome result.misfit (λ misfit. IsMisfitOf options.now.precincts (content input.now boxed.now) result.status misfit) }
 {
     let inner = content_of(input, boxed);
     let mut made = SureFiles::new(alloc);
@@ -206,6 +211,7 @@ fn answer_around<R: Threads + Wait + Sync, G: Gate + Sync, F: Files>(
             blocks: ending.blocks,
             bytes: 0,
             tape: ending.tape,
+            misfit: ending.misfit,
         },
     }
 }
@@ -230,6 +236,7 @@ pub fn answer_jp2<R: Threads + Wait + Sync, G: Gate + Sync, F: Files>(
     ensures rose { F.write_faults files.old < F.write_faults files.new → result.status ≡ Status.WriteFault }
     ensures read { (result.status ≡ Status.ReadFault → ⊥) × (result.status ≡ Status.Words → ⊥) }
     ensures other { F.read_faults files.new ≡ F.read_faults files.old }
+    ensures misfit { IfSome result.misfit (λ misfit. IsMisfitOfJp2 options.now.precincts input.now result.status misfit) }
 {
     if input.len() >= MOST {
         return Ending::refused(alloc, Status::too_long());

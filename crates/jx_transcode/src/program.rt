@@ -1,11 +1,12 @@
 //! The top call: what words ask for is read and done.
 
-ghost use Rattle.std.specs.Prelude.{◌≡◌, ◌<◌, ◌⊎◌, None, Some, true, false, map, string_bytes};
+ghost use Rattle.std.specs.Prelude.{◌≡◌, ◌<◌, ◌⊎◌, None, Some, true, false, map, string_bytes, IfSome};
 ghost use Rattle.jx_plan.specs.Planned.{chosen};
 ghost use Rattle.jx_io.specs.Causes.{Rose};
 ghost use Rattle.jx_cli.specs.BoxesWords.{boxes_of, is_boxes};
 ghost use Rattle.jx_cli.specs.SameWords.{is_same, same_of};
 ghost use Rattle.jx_cli.specs.Words.{is_good, request_of};
+ghost use Rattle.jx_transcode.specs.Misfits.{TellsMisfit};
 ghost use Rattle.jx_transcode.specs.Outcome.{EndsAsReadFault, IsVerdict};
 ghost use Rattle.jx_transcode.specs.Runs.{Outcome};
 ghost use Rattle.jx_transcode.specs.SameRun.{IsOfFirst};
@@ -82,6 +83,8 @@ pub fn run<R: Threads + Wait + Sync, F: Files, S: Sink, G: Gate + Sync>(
     // whether boxes that hold positions in the file were kept
     ensures positions { is_good (map string_bytes words.now) ≡ true → TellsPositions (request_of (map string_bytes words.now)) result.positions result.status (F.meaning files.old) }
     ensures none { is_good (map string_bytes words.now) ≡ false → result.positions ≡ false }
+    // what is told beside choice 2
+    ensures misfit { IfSome result.misfit (λ misfit. (is_good (map string_bytes words.now) ≡ true) × TellsMisfit (request_of (map string_bytes words.now)) misfit result.status (F.meaning files.old)) }
     ensures unwritten { is_good (map string_bytes words.now) ≡ false → F.write_faults files.new ≡ F.write_faults files.old }
 {
     match read_command(alloc, words) {

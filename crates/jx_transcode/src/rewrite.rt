@@ -1,7 +1,8 @@
 //! What becomes of an input whose bytes were read.
 
-ghost use Rattle.std.specs.Prelude.{◌≡◌, ◌<◌, ◌≤◌, ◌^◌, [], length};
+ghost use Rattle.std.specs.Prelude.{◌≡◌, ◌<◌, ◌≤◌, ◌^◌, [], length, IfSome, None, Some};
 ghost use Rattle.jx_io.specs.Causes.{Rose};
+ghost use Rattle.jx_codestream.specs.InRange.{StreamInRange};
 ghost use Rattle.jx_codestream.specs.Read.{IsRead};
 ghost use Rattle.jx_plan.specs.Planned.{chosen};
 ghost use Rattle.jx_options.specs.Wanted.{MayBeWanted};
@@ -9,6 +10,7 @@ ghost use Rattle.jx_options.specs.Work.{MayBeWork};
 ghost use Rattle.jx_workers.specs.Told.{anew_in};
 ghost use Rattle.jx_transcode.specs.Filed.{IsAnswered, IsEndOf, blocks_told, status_of, told_by, told_of_plan};
 ghost use Rattle.jx_transcode.specs.Jp2Run.{IsPlaced};
+ghost use Rattle.jx_transcode.specs.Misfits.{HasTile, IsMisfitBy, IsMisfitOf};
 ghost use Rattle.jx_transcode.specs.Outcome.{most_bytes};
 
 use crate::Status;
@@ -21,7 +23,7 @@ use jx_io::{Files, Gate};
 use jx_layers::{LayerPlanner, shortened};
 use jx_options::Options;
 use jx_plan::laws::{gathered_may_be_planned, plans_write_these_blocks};
-use jx_plan::{PlanFault, plan_served};
+use jx_plan::{Misfit, PlanFault, first_misfit, plan_served};
 use jx_rounds::{Crew, Halt, TapeEntry};
 use jx_tier2_reader::gather;
 use jx_tier2_writer::laws::{one_output, rewritten_is_read};
@@ -38,6 +40,8 @@ pub struct Ending {
     pub bytes: usize,
     // the entries of the rounds that were written
     pub tape: Vec<TapeEntry>,
+    // what is told beside choice 2
+    pub misfit: Option<Misfit>,
 }
 
 impl Ending {
@@ -46,12 +50,14 @@ impl Ending {
         ensures status { result.status ≡ status }
         ensures none { (result.blocks ≡ 0) × (result.bytes ≡ 0) }
         ensures tape { result.tape.items ≡ [] }
+        ensures misfit { result.misfit ≡ None }
     {
         Ending {
             status,
             blocks: 0,
             bytes: 0,
             tape: Vec::new(alloc),
+            misfit: None,
         }
     }
 }
@@ -78,6 +84,7 @@ fn ending_of(written: Result<usize, Halt>, blocks: u32, tape: Vec<TapeEntry>) ->
     ensures placed { IsPlaced result.status }
     ensures blocks { result.blocks ≡ blocks }
     ensures tape { result.tape.items ≡ tape.items }
+    ensures misfit { result.misfit ≡ None }
 {
     match written {
         Ok(bytes) => Ending {
@@ -85,22 +92,40 @@ fn ending_of(written: Result<usize, Halt>, blocks: u32, tape: Vec<TapeEntry>) ->
             blocks,
             bytes,
             tape,
+            misfit: None,
         },
         Err(halt) => Ending {
             status: status_of(halt),
             blocks,
             bytes: 0,
             tape,
+            misfit: None,
         },
     }
 }
 
-/// A plan that can't be had of an input with so many code-blocks.
-fn unplanned_by(alloc: Global, fault: PlanFault, blocks: u32) -> Ending
+/// Where precincts would change a code-block first: after choice 2, where there is memory to look for it.
+fn misfit_of(alloc: Global, stream: &Stream, options: &Options, fault: PlanFault) -> Option<Misfit>
+    requires range { StreamInRange stream.now }
+    requires tile { HasTile stream.now fault }
+    ensures { IfSome result (λ misfit. IsMisfitBy options.now.precincts stream.now fault misfit) }
+{
+    let PlanFault::Choice { number: 2, place } = fault else {
+        return None;
+    };
+    match first_misfit(alloc, stream, place as u16, &options.precincts) {
+        Ok(first) => first,
+        Err(_) => None,
+    }
+}
+
+/// A plan that can't be had of an input with so many code-blocks, and what is told beside choice 2.
+fn unplanned_by(alloc: Global, fault: PlanFault, blocks: u32, misfit: Option<Misfit>) -> Ending
     ensures status { result.status ≡ told_of_plan fault }
     ensures placed { IsPlaced result.status }
     ensures blocks { (result.blocks ≡ blocks_told fault blocks) × (result.bytes ≡ 0) }
     ensures tape { result.tape.items ≡ [] }
+    ensures misfit { IfSome result.misfit (λ told. misfit ≡ Some told) }
 {
     match fault {
         PlanFault::Limit { number, found } => Ending {
@@ -108,12 +133,14 @@ fn unplanned_by(alloc: Global, fault: PlanFault, blocks: u32) -> Ending
             blocks,
             bytes: 0,
             tape: Vec::new(alloc),
+            misfit: None,
         },
         PlanFault::Choice { number, place } => Ending {
             status: Status::Choice { number, place },
             blocks,
             bytes: 0,
             tape: Vec::new(alloc),
+            misfit,
         },
         PlanFault::NoMemory => Ending::refused(alloc, Status::NoMemory),
     }
@@ -125,6 +152,7 @@ fn refused_by(alloc: Global, fault: StreamFault) -> Ending
     ensures placed { IsPlaced result.status }
     ensures none { (result.blocks ≡ 0) × (result.bytes ≡ 0) }
     ensures tape { result.tape.items ≡ [] }
+    ensures misfit { result.misfit ≡ None }
 {
     match fault {
         StreamFault::Rule { number, place } => Ending::refused(
@@ -178,6 +206,7 @@ fn rewrite<R: Threads + Wait + Sync, G: Gate + Sync, F: Files>(
     ensures read { (result.status ≡ Status.ReadFault → ⊥) × (result.status ≡ Status.Words → ⊥) }
     ensures placed { IsPlaced result.status }
     ensures other { F.read_faults files.new ≡ F.read_faults files.old }
+    ensures misfit { IfSome result.misfit (λ misfit. IsMisfitOf options.now.precincts input.now result.status misfit) }
 {
     gathered_may_be_planned();
     plans_write_these_blocks();
@@ -190,7 +219,10 @@ fn rewrite<R: Threads + Wait + Sync, G: Gate + Sync, F: Files>(
     let read: &[Block<'_>] = &blocks;
     let plan = match plan_served(alloc, stream, shortened(read), options, planners) {
         Ok(plan) => plan,
-        Err(fault) => return unplanned_by(alloc, fault, read.len() as u32),
+        Err(fault) => {
+            let misfit = misfit_of(alloc, stream, options, fault);
+            return unplanned_by(alloc, fault, read.len() as u32, misfit);
+        }
     };
     let jobs = plan.jobs();
     let count = jobs.len() as u32;
@@ -222,6 +254,7 @@ pub fn answer<R: Threads + Wait + Sync, G: Gate + Sync, F: Files>(
     ensures read { (result.status ≡ Status.ReadFault → ⊥) × (result.status ≡ Status.Words → ⊥) }
     ensures placed { IsPlaced result.status }
     ensures other { F.read_faults files.new ≡ F.read_faults files.old }
+    ensures misfit { IfSome result.misfit (λ misfit. IsMisfitOf options.now.precincts input.now result.status misfit) }
 {
     if input.len() >= MOST {
         return Ending::refused(alloc, Status::too_long());

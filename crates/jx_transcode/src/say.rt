@@ -1,6 +1,6 @@
 //! What is said of a run: one line, or nothing.
 
-ghost use Rattle.std.specs.Prelude.{◌≡◌, ◌⊎◌, ◌<◌, [], false};
+ghost use Rattle.std.specs.Prelude.{◌≡◌, ◌⊎◌, ◌<◌, [], false, None};
 ghost use Rattle.jx_io.specs.Causes.{Rose};
 ghost use Rattle.jx_transcode.specs.Outcome.{EndsAs, EndsAtWords, line_of};
 
@@ -29,6 +29,7 @@ pub fn refuse<S: Sink>(alloc: Global, say: &mut S, status: Status) -> Report
     ensures none { result.blocks ≡ 0 }
     ensures tape { result.tape.items ≡ [] }
     ensures positions { result.positions ≡ false }
+    ensures misfit { result.misfit ≡ None }
 {
     let status = match line_of(alloc, status, 0, 0) {
         Ok(line) => say_line(say, status, line.as_str()),
@@ -39,5 +40,6 @@ pub fn refuse<S: Sink>(alloc: Global, say: &mut S, status: Status) -> Report
         blocks: 0,
         tape: Vec::new(alloc),
         positions: false,
+        misfit: None,
     }
 }

@@ -1,5 +1,6 @@
 //! How a run ended, and what it tells.
 
+use jx_plan::Misfit;
 use jx_rounds::TapeEntry;
 use jx_same::Spot;
 
@@ -99,4 +100,7 @@ pub struct Report {
     pub tape: Vec<TapeEntry>,
     /// Whether the output has boxes of the input that hold positions in the file: they stay as they are, and may be wrong now.
     pub positions: bool,
+    /// After choice 2 where the asked precincts would change a code-block of the tile first, and what the input has there; none where there
+    /// was no memory to look for it.
+    pub misfit: Option<Misfit>,
 }

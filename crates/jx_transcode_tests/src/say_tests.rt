@@ -83,6 +83,18 @@ fn other_refusals(rt: HostRuntime) -> Result<(), Fail> {
         &rt,
         says_lines(alloc, "jx transcode a b", none, "memory", "")?,
     );
+    let misfit = Refusal::Misfit {
+        place: 65_534,
+        comp: 16_383,
+        res: 32,
+        across: 15,
+        down: 15,
+    };
+    let own = "16383: use the input's own 15x15 there, or";
+    check(
+        &rt,
+        says_lines(alloc, "jx transcode a b", misfit, own, "in tile 65534,")?,
+    );
     let line = "jx: standard output";
     check(&rt, says_lines(alloc, "jx make 1 2 3", fault, line, "")?);
     Ok(())

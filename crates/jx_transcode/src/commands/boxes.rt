@@ -43,12 +43,14 @@ fn say_lines<S: Sink>(alloc: Global, say: &mut S, lines: &str) -> Report
     ensures none { result.blocks ≡ 0 }
     ensures tape { result.tape.items ≡ [] }
     ensures positions { result.positions ≡ false }
+    ensures misfit { result.misfit ≡ None }
 {
     Report {
         status: say_line(say, Status::Done, lines),
         blocks: 0,
         tape: Vec::new(alloc),
         positions: false,
+        misfit: None,
     }
 }
 
@@ -63,6 +65,7 @@ pub fn run<F: Files, S: Sink>(alloc: Global, name: &str, files: &mut F, say: &mu
     ensures read_rose { F.read_faults files.old < F.read_faults files.new → EndsAsReadFault result.status (S.faults say.old) (S.faults say.new) }
     ensures other { F.write_faults files.new ≡ F.write_faults files.old }
     ensures positions { result.positions ≡ false }
+    ensures misfit { result.misfit ≡ None }
 {
     let input = match read_input(alloc, files, name) {
         Ok(input) => input,

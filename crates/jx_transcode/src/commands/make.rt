@@ -134,6 +134,7 @@ fn say_made<S: Sink>(alloc: Global, say: &mut S, made: Made) -> Report
     ensures blocks { result.blocks ≡ made.blocks }
     ensures tape { result.tape.items ≡ made.tape.items }
     ensures positions { result.positions ≡ false }
+    ensures misfit { result.misfit ≡ None }
 {
     let status = match make_line(
         alloc,
@@ -151,6 +152,7 @@ fn say_made<S: Sink>(alloc: Global, say: &mut S, made: Made) -> Report
         blocks: made.blocks,
         tape: made.tape,
         positions: false,
+        misfit: None,
     }
 }
 
@@ -169,6 +171,7 @@ pub fn run<R: Threads + Wait + Sync, S: Sink, G: Gate + Sync>(
     ensures write { result.status ≡ Status.WriteFault → Rose (S.faults say.old) (S.faults say.new) }
     ensures unsaid { S.faults say.old < S.faults say.new → result.status ≡ Status.WriteFault }
     ensures positions { result.positions ≡ false }
+    ensures misfit { result.misfit ≡ None }
 {
     let crew = Crew {
         rt,

@@ -139,6 +139,7 @@ fn say_told<S: Sink>(alloc: Global, say: &mut S, told: Told) -> Report
     ensures blocks { result.blocks ≡ blocks_after result.status told.count }
     ensures tape { result.tape.items ≡ [] }
     ensures positions { result.positions ≡ false }
+    ensures misfit { result.misfit ≡ None }
 {
     let status = match same_line(alloc, told.status) {
         Ok(line) => say_line(say, told.status, line.as_str()),
@@ -149,6 +150,7 @@ fn say_told<S: Sink>(alloc: Global, say: &mut S, told: Told) -> Report
         blocks: blocks_after(status, told.count),
         tape: Vec::new(alloc),
         positions: false,
+        misfit: None,
     }
 }
 
@@ -166,6 +168,7 @@ pub fn run<F: Files, S: Sink>(alloc: Global, names: &Pair, files: &mut F, say: &
     ensures read_rose { F.read_faults files.old < F.read_faults files.new → EndsAsReadFault result.status (S.faults say.old) (S.faults say.new) }
     ensures other { F.write_faults files.new ≡ F.write_faults files.old }
     ensures positions { result.positions ≡ false }
+    ensures misfit { result.misfit ≡ None }
 {
     let told = compare_files(alloc, names, files);
     say_told(alloc, say, told)

@@ -1,6 +1,6 @@
 //! `transcode`: a codestream, or that in a JP2 file, is rewritten to another file.
 
-ghost use Rattle.std.specs.Prelude.{◌≡◌, ◌<◌, ◌≤◌, ◌⊎◌, ◌↔◌, [], None, Some, length, IsTrue};
+ghost use Rattle.std.specs.Prelude.{◌≡◌, ◌<◌, ◌≤◌, ◌⊎◌, ◌↔◌, [], None, Some, length, IfSome, IsTrue};
 ghost use Rattle.jx_jp2.specs.Codestream.{IsJp2};
 ghost use Rattle.jx_plan.specs.Planned.{chosen};
 ghost use Rattle.jx_options.specs.Wanted.{MayBeWanted};
@@ -8,6 +8,7 @@ ghost use Rattle.jx_options.specs.Work.{MayBeWork};
 ghost use Rattle.jx_io.specs.Causes.{Rose};
 ghost use Rattle.jx_transcode.specs.Filed.{IsAnswered, unread_as};
 ghost use Rattle.jx_transcode.specs.Jp2Run.{EndsJp2, KeepsPositions};
+ghost use Rattle.jx_transcode.specs.Misfits.{IsMisfitOfFile, TellsMisfit};
 ghost use Rattle.jx_transcode.specs.Outcome.{EndsAs, EndsAsReadFault, line_of, most_bytes};
 ghost use Rattle.jx_transcode.specs.TranscodeRun.{Ends, TellsPositions};
 
@@ -22,6 +23,7 @@ use jx_io::{Files, Gate, Refused, Sink};
 use jx_jp2::{holds_positions, is_jp2};
 use jx_layers::LayerPlanner;
 use jx_options::{FormChoice, Options};
+use jx_plan::Misfit;
 use jx_rounds::Crew;
 use std::alloc::Global;
 use std::sync::Wait;
@@ -32,6 +34,7 @@ fn unread(alloc: Global, refused: Refused) -> Ending
     ensures status { result.status ≡ unread_as refused }
     ensures none { (result.blocks ≡ 0) × (result.bytes ≡ 0) }
     ensures tape { result.tape.items ≡ [] }
+    ensures misfit { result.misfit ≡ None }
 {
     Ending::refused(alloc, unread_as(refused))
 }
@@ -58,6 +61,7 @@ fn answer_file<R: Threads + Wait + Sync, G: Gate + Sync, F: Files>(
     ensures read { (result.status ≡ Status.ReadFault → ⊥) × (result.status ≡ Status.Words → ⊥) }
     ensures other { F.read_faults files.new ≡ F.read_faults files.old }
     ensures short { result.status ≡ Status.Done → length input.now ≤ most_bytes }
+    ensures misfit { IfSome result.misfit (λ misfit. IsMisfitOfFile options.now.precincts input.now result.status misfit) }
 {
     if is_jp2(input) {
         return answer_jp2(crew, alloc, files, input, to, form, options, planners);
@@ -73,6 +77,16 @@ fn keeps_positions(form: FormChoice, input: &[u8], status: Status) -> bool
     status == Status::Done && form == FormChoice::Keep && is_jp2(input) && holds_positions(input)
 }
 
+/// What is told beside a status, where it is still that after the line was said.
+fn told_still(misfit: Option<Misfit>, before: Status, status: Status) -> Option<Misfit>
+    ensures { IfSome result (λ told. (misfit ≡ Some told) × (status ≡ before)) }
+{
+    if status == before {
+        return misfit;
+    }
+    None
+}
+
 /// Says the line of what was done. `positions` says whether boxes that hold positions were kept.
 fn say_ending<S: Sink>(alloc: Global, say: &mut S, ending: Ending, positions: bool) -> Report
     ensures says { EndsAs ending.status (line_of ending.status ending.blocks ending.bytes) result.status (S.said say.old) (S.said say.new) (S.faults say.old) (S.faults say.new) }
@@ -80,6 +94,7 @@ fn say_ending<S: Sink>(alloc: Global, say: &mut S, ending: Ending, positions: bo
     ensures tape { result.tape.items ≡ ending.tape.items }
     ensures failed { ending.status ≡ Status.WriteFault → result.status ≡ Status.WriteFault }
     ensures positions { IsTrue result.positions ↔ (IsTrue positions × (result.status ≡ Status.Done)) }
+    ensures misfit { IfSome result.misfit (λ told. (ending.misfit ≡ Some told) × (result.status ≡ ending.status)) }
 {
     let status = match ending.status {
         // nothing is said
@@ -94,6 +109,7 @@ fn say_ending<S: Sink>(alloc: Global, say: &mut S, ending: Ending, positions: bo
         blocks: ending.blocks,
         tape: ending.tape,
         positions: positions && status == Status::Done,
+        misfit: told_still(ending.misfit, ending.status, status),
     }
 }
 
@@ -120,6 +136,7 @@ pub fn run<R: Threads + Wait + Sync, F: Files, S: Sink, G: Gate + Sync>(
     ensures read_rose { F.read_faults files.old < F.read_faults files.new → EndsAsReadFault result.status (S.faults say.old) (S.faults say.new) }
     ensures write_rose { F.write_faults files.old < F.write_faults files.new → result.status ≡ Status.WriteFault }
     ensures positions { TellsPositions request.now result.positions result.status (F.meaning files.old) }
+    ensures misfit { IfSome result.misfit (λ misfit. TellsMisfit request.now misfit result.status (F.meaning files.old)) }
 {
     let crew = Crew {
         rt,

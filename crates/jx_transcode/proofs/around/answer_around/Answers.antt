@@ -1,5 +1,6 @@
 use Rattle.std.proofs.Common.{arith}
 use Rattle.jx_transcode.proofs.AroundLemmas.{around_refused, around_written, end_apart, ends_by, failed_by, in_memory, left_by, raised_apart, rose_by}
+use Rattle.jx_transcode.proofs.MisfitLemmas.{each_told, raised_misfit, told_on, untold}
 use Rattle.jx_transcode.specs.declared.status.Status.TheVariants as status
 use Rattle.jx_transcode.proofs.around.answer_around.Goals as goal
 
@@ -37,3 +38,11 @@ returns-clause-read g c = rw c.raised.ensures (
   raised_apart c.args.boxed.now.from c.answer-ending.result.status status.ReadFault tt c.answer-ending.ensures.read.0,
   raised_apart c.args.boxed.now.from c.answer-ending.result.status status.Words tt c.answer-ending.ensures.read.1,
 )
+
+pub returns-in-Done-clause-misfit : goal.returns-in-Done-clause-misfit
+returns-in-Done-clause-misfit g c = untold _ c.written_as.result.misfit c.written_as.ensures.misfit
+
+pub returns-clause-misfit : goal.returns-clause-misfit
+returns-clause-misfit g c = rw c.raised.ensures (told_on _ _ c.answer-ending.result.misfit c.answer-ending.result.misfit (each_told c.answer-ending.result.misfit)
+    (λ m is. raised_misfit c.args.options.now.precincts c.args.boxed.now.from c.content_of-inner.result.now c.args.input.now c.args.boxed.now c.answer-ending.result.status m c.content_of-inner.ensures is)
+    c.answer-ending.ensures.misfit)

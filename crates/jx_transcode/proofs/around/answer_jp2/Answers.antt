@@ -1,5 +1,6 @@
 use Rattle.std.proofs.Common.{◌∙◌, arith, inr}
 use Rattle.jx_transcode.proofs.AroundLemmas.{too_long_jp2}
+use Rattle.jx_transcode.proofs.MisfitLemmas.{each_told, told_on, untold}
 use Rattle.jx_transcode.proofs.StatusLemmas.{limit_unread, limit_unwritten}
 use Rattle.jx_transcode.proofs.around.answer_jp2.Goals as goal
 
@@ -17,3 +18,11 @@ returns-in-Ok-clause-answer g c = inr (_, c.answer_around.ensures.answer)
 
 pub returns-in-Ok-clause-long : goal.returns-in-Ok-clause-long
 returns-in-Ok-clause-long g c = λ long. absurd (omega (arith, long, c.if-input-ge-MOST.false))
+
+pub returns-then-input-ge-MOST-clause-misfit : goal.returns-then-input-ge-MOST-clause-misfit
+returns-then-input-ge-MOST-clause-misfit g c = untold _ c.refused.result.misfit c.refused.ensures.misfit
+
+pub returns-in-Ok-clause-misfit : goal.returns-in-Ok-clause-misfit
+returns-in-Ok-clause-misfit g c =
+    told_on _ _ c.answer_around.result.misfit c.answer_around.result.misfit (each_told c.answer_around.result.misfit)
+    (λ m is. (omega (arith, c.if-input-ge-MOST.false), _, c.requires_found, is)) c.answer_around.ensures.misfit

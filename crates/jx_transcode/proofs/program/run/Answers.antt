@@ -1,4 +1,5 @@
 use Rattle.std.proofs.Common.{◌∙◌, map, string_bytes}
+use Rattle.jx_transcode.proofs.MisfitLemmas.{each_told, told_on, untold}
 use Rattle.jx_transcode.proofs.RunLemmas.{outcome_boxes, outcome_lent, outcome_make, outcome_memory, outcome_same, outcome_transcode}
 use Rattle.jx_transcode.proofs.program.run.Goals as goal
 
@@ -25,3 +26,20 @@ returns-in-Ok-Same-clause-outcome g c =
 pub returns-clause-outcome : goal.returns-clause-outcome
 returns-clause-outcome g c = rw (c.refuse-in-Err-NoMemory.ensures.none, c.refuse-in-Err-NoMemory.ensures.tape)
     (outcome_memory (map string_bytes c.args.words.now) _ _ _ _ _ _ _ c.refuse-in-Err-NoMemory.ensures.ends)
+
+pub returns-in-Ok-Transcode-clause-misfit : goal.returns-in-Ok-Transcode-clause-misfit
+returns-in-Ok-Transcode-clause-misfit g c =
+    let asks = rw c.in-Ok-Transcode.field-0-is at c.in-Ok-Transcode.ensures.asks in
+    told_on _ _ c.run.result.misfit c.run.result.misfit (each_told c.run.result.misfit) (λ m is. (asks.0, rw (← asks.3) is)) c.run.ensures.misfit
+
+pub returns-in-Ok-Make-clause-misfit : goal.returns-in-Ok-Make-clause-misfit
+returns-in-Ok-Make-clause-misfit g c = untold _ c.run-in-Ok-Make.result.misfit c.run-in-Ok-Make.ensures.misfit
+
+pub returns-in-Ok-Boxes-clause-misfit : goal.returns-in-Ok-Boxes-clause-misfit
+returns-in-Ok-Boxes-clause-misfit g c = untold _ c.run-in-Ok-Boxes.result.misfit c.run-in-Ok-Boxes.ensures.misfit
+
+pub returns-in-Ok-Same-clause-misfit : goal.returns-in-Ok-Same-clause-misfit
+returns-in-Ok-Same-clause-misfit g c = untold _ c.run-in-Ok-Same.result.misfit c.run-in-Ok-Same.ensures.misfit
+
+pub returns-clause-misfit : goal.returns-clause-misfit
+returns-clause-misfit g c = untold _ c.refuse-in-Err-NoMemory.result.misfit c.refuse-in-Err-NoMemory.ensures.misfit

@@ -1,5 +1,6 @@
 use Rattle.std.proofs.Common.{◌∙◌, arith, refl, ◌≤◌, length}
 use Rattle.jx_transcode.specs.Outcome.{most_bytes}
+use Rattle.jx_transcode.proofs.MisfitLemmas.{untold}
 use Rattle.jx_transcode.proofs.RefusedLemmas.{header_refused, input_unread, input_unwritten, too_long}
 use Rattle.jx_transcode.proofs.StatusLemmas.{limit_unread, limit_unwritten}
 use Rattle.jx_transcode.proofs.rewrite.answer.Goals as goal
@@ -59,3 +60,12 @@ returns-in-Err-clause-rose g c = λ rose. absurd (omega (arith, rose))
 
 pub returns-then-input-ge-MOST-clause-rose : goal.returns-then-input-ge-MOST-clause-rose
 returns-then-input-ge-MOST-clause-rose g c = λ rose. absurd (omega (arith, rose))
+
+pub returns-then-input-ge-MOST-clause-misfit : goal.returns-then-input-ge-MOST-clause-misfit
+returns-then-input-ge-MOST-clause-misfit g c = untold _ c.refused.result.misfit c.refused.ensures.misfit
+
+pub returns-in-Ok-clause-misfit : goal.returns-in-Ok-clause-misfit
+returns-in-Ok-clause-misfit g c = c.rewrite.ensures.misfit
+
+pub returns-in-Err-clause-misfit : goal.returns-in-Err-clause-misfit
+returns-in-Err-clause-misfit g c = untold _ c.refused_by.result.misfit c.refused_by.ensures.misfit

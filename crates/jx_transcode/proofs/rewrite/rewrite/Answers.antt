@@ -3,6 +3,7 @@ use Rattle.jx_base.specs.declared.pieces.Block.{Block}
 use Rattle.jx_codeblock.specs.declared.job.Job.{Job}
 use Rattle.jx_rounds.proofs.FrontLemmas.{jobs_few, planned_few}
 use Rattle.jx_transcode.proofs.AnswerLemmas.{Laws, answered_by_plan, carried_out}
+use Rattle.jx_transcode.proofs.MisfitLemmas.{caused_tile, planned_misfit, told_on, untold}
 use Rattle.jx_transcode.proofs.RefusedLemmas.{answered_unplanned, input_unread, input_unwritten, plan_unread, plan_unwritten, reads_of, tiles_refused}
 use Rattle.jx_transcode.proofs.StatusLemmas.{ended_failed, ended_unread, failed_ended}
 use Rattle.jx_transcode.proofs.rewrite.rewrite.Goals as goal
@@ -82,3 +83,22 @@ returns-in-Err-plan_served-clause-rose g c = λ rose. absurd (omega (arith, rose
 
 pub returns-clause-rose : goal.returns-clause-rose
 returns-clause-rose g c = λ rose. failed_ended c.write_file-written.result _ _ c.ending_of.ensures.ends (c.write_file-written.ensures.rose rose)
+
+pub misfit_of-misfit-requires-clause-range : goal.misfit_of-misfit-requires-clause-range
+misfit_of-misfit-requires-clause-range g c =
+    (c.gathered_may_be_planned.ensures c.args.input.now c.args.stream.now c.in-Ok.blocks.items c.requires.read c.requires.within c.in-Ok.ensures.totals c.in-Ok.ensures.gathered).range
+
+pub misfit_of-misfit-requires-clause-tile : goal.misfit_of-misfit-requires-clause-tile
+misfit_of-misfit-requires-clause-tile g c = caused_tile _ c.args.stream.now _ c.args.options.now c.in-Err-plan_served.fault c.in-Err-plan_served.ensures.cause
+
+pub returns-in-Err-clause-misfit : goal.returns-in-Err-clause-misfit
+returns-in-Err-clause-misfit g c = untold _ c.refused_by.result.misfit c.refused_by.ensures.misfit
+
+pub returns-in-Err-plan_served-clause-misfit : goal.returns-in-Err-plan_served-clause-misfit
+returns-in-Err-plan_served-clause-misfit g c =
+    told_on _ _ c.misfit_of-misfit.result c.unplanned_by.result.misfit c.unplanned_by.ensures.misfit
+    (λ m is. planned_misfit c.args.options.now.precincts c.args.input.now c.args.stream.now c.in-Err-plan_served.fault c.unplanned_by.result.status m c.requires.within c.requires.read c.unplanned_by.ensures.status is)
+    c.misfit_of-misfit.ensures
+
+pub returns-clause-misfit : goal.returns-clause-misfit
+returns-clause-misfit g c = untold _ c.ending_of.result.misfit c.ending_of.ensures.misfit

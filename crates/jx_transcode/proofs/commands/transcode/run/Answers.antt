@@ -1,6 +1,7 @@
 use Rattle.jx_transcode.proofs.OutcomeLemmas.{ends_as, ends_read, ends_refused, ends_said}
 use Rattle.std.proofs.Common.{arith}
 use Rattle.jx_rounds.proofs.WriteLemmas.{unrisen}
+use Rattle.jx_transcode.proofs.MisfitLemmas.{each_told, misfit_told, none_still, told_on, untold}
 use Rattle.jx_transcode.proofs.PositionsLemmas.{done_said, positions_told, positions_untold, unread_undone}
 use Rattle.jx_transcode.proofs.SaidLemmas.{read_said, rose_said, unread_said, unsaid, write_said}
 use Rattle.jx_transcode.proofs.StatusLemmas.{failed_unread, unread_either, unread_failed, unread_unwritten}
@@ -67,3 +68,13 @@ returns-in-Ok-clause-absent g c = λ absent. absurd (c.in-Ok.ensures.there (rw c
 
 pub returns-in-Err-clause-absent : goal.returns-in-Err-clause-absent
 returns-in-Err-clause-absent g c = λ absent. unread_said _ _ _ _ _ _ _ (unread_either c.in-Err.refused _ c.unread.ensures.status) c.say_ending-in-Err.ensures.says
+
+pub returns-in-Ok-clause-misfit : goal.returns-in-Ok-clause-misfit
+returns-in-Ok-clause-misfit g c =
+    told_on _ _ c.say_ending.result.misfit c.say_ending.result.misfit (each_told c.say_ending.result.misfit)
+    (λ m is. misfit_told c.args.request.now c.options.result.now c.deref-input.result.now c.answer_file-ending.result.status c.say_ending.result.status (g.F.Files.meaning c.args.files.now) c.answer_file-ending.result.misfit m
+    (rw (c.deref-input.ensures.value, ← c.from.ensures) c.in-Ok.ensures.bytes) c.options.ensures c.answer_file-ending.ensures.misfit is)
+    c.say_ending.ensures.misfit
+
+pub returns-in-Err-clause-misfit : goal.returns-in-Err-clause-misfit
+returns-in-Err-clause-misfit g c = untold _ c.say_ending-in-Err.result.misfit (none_still c.unread.result.misfit c.say_ending-in-Err.result.misfit _ c.unread.ensures.misfit c.say_ending-in-Err.ensures.misfit)
