@@ -13,8 +13,8 @@ ghost use Rattle.jx_tool.specs.Ended.{IsEnded, IsHelped, IsEndedBySome, IsSaid, 
 use jx_cli::{WordsFault, read_words};
 use jx_io::{Fault, Files, Progress, Refused, Sink, TellsFault, is_standard_output};
 use jx_layers::{CutLayers, KeepLayers, LayerPlanner, OneLayer, PlaneLayers};
-use jx_plan::Misfit;
 use jx_messages::{Refusal, explain, explain_fault, help_of, note_positions};
+use jx_plan::Misfit;
 use jx_transcode::{Status, Unlike, run};
 use std::alloc::{AllocError, Global};
 use std::env::Args;
