@@ -4,40 +4,23 @@
 
 usage: bench/passes.py [PICTURE.ppm]
 
-Without a picture one of 2,048 by 1,536 is made (smooth shades with noise, RGB, 8 bits). It is coded without loss. A repository is made in a
-temporary folder, with copies of the crates that are needed and a program that reads a codestream, gathers its code-blocks, and decodes each, or
+Without a picture one of 2,048 by 1,536 is made (smooth shades with noise, RGB, 8 bits). It is coded without loss. A copy of the repository's
+crates is made in a temporary folder, with a program that reads a codestream, gathers its code-blocks, and decodes each, or
 decodes and codes each; the program is proved and built (`rt run`), which takes some minutes where the crates below it aren't kept. Then, in
 turn and five times each, `opj_decompress`, `opj_compress` and the program are run. Prints medians of processor seconds; those of the program
 are without the reading, which is timed by itself. Only Python's standard library is needed, and `rt`.
 """
 
 import os
-import shutil
 import statistics
 import subprocess
 import sys
 import tempfile
 
 sys.path.insert(0, os.path.dirname(os.path.abspath(__file__)))
+from aside import copy
 from recode import timed
 from regroup import RUNS, made_picture
-
-LINES = """jx_base:
-jx_marker: jx_base byteorder
-jx_geom: jx_base
-jx_progression: jx_base jx_geom jx_marker
-jx_tagtree: jx_base
-jx_packet_header: jx_base jx_tagtree
-jx_coder_specs:
-jx_raw: jx_base jx_coder_specs
-jx_mq: jx_base jx_coder_specs
-jx_tier1_specs: jx_base jx_coder_specs jx_mq jx_raw
-jx_tier1_plain: jx_base jx_coder_specs jx_mq jx_raw jx_tier1_specs
-jx_tier1: jx_base jx_coder_specs jx_mq jx_raw jx_tier1_specs
-jx_codestream: jx_base jx_marker jx_geom thiserror
-jx_tile: jx_base jx_marker jx_geom jx_progression jx_tagtree jx_packet_header jx_codestream
-jx_tier2_reader: jx_base jx_marker jx_geom jx_progression jx_tagtree jx_packet_header jx_codestream jx_tile
-"""
 
 PROGRAM = r'''//! Decodes and codes every code-block of a codestream.
 #![tactic(auto)]
@@ -121,25 +104,14 @@ FORMS = {
 }
 
 
-def built(top, folder, form):
+def built(folder, form):
     """The path of the program over one form of the coding passes, proved and built in the folder."""
-    root = os.path.join(folder, form)
-    source = os.path.join(root, "crates", "passes", "src")
-    os.makedirs(source)
-    for line in LINES.splitlines():
-        name = line.split(":")[0]
-        shutil.copytree(os.path.join(top, "crates", name), os.path.join(root, "crates", name), ignore=shutil.ignore_patterns("out"))
-    shutil.copy(os.path.join(top, "HANDLES"), root)
-    with open(os.path.join(root, "crates.txt"), "w") as file:
-        names = " ".join(line.split(":")[0] for line in LINES.splitlines())
-        file.write(LINES + f"passes: {names} anyhow\n")
     text = PROGRAM
     for word, value in FORMS[form].items():
         text = text.replace(word, value)
-    with open(os.path.join(source, "main.rt"), "w") as file:
-        file.write(text)
-    run = subprocess.run(["rt", "run", "--", "none"], cwd=os.path.join(root, "crates", "passes"), capture_output=True, text=True)
-    for where, _, files in os.walk(os.path.join(root, "crates", "passes", "out")):
+    crate = copy(os.path.join(folder, form), "passes", ["jx_" + FORMS[form]["CRATE"], "jx_tier2_reader"], {"src/main.rt": text})
+    run = subprocess.run(["rt", "run", "--", "none"], cwd=crate, capture_output=True, text=True)
+    for where, _, files in os.walk(os.path.join(crate, "out")):
         for name in files:
             path = os.path.join(where, name)
             if name == "passes" and os.access(path, os.X_OK):
@@ -148,7 +120,6 @@ def built(top, folder, form):
 
 
 def main(words):
-    top = os.path.dirname(os.path.dirname(os.path.abspath(__file__)))
     with tempfile.TemporaryDirectory() as folder:
         picture = words[0] if words else os.path.join(folder, "in.ppm")
         if not words:
@@ -160,7 +131,7 @@ def main(words):
             "opj_compress": ["opj_compress", "-threads", "1", "-i", picture, "-o", os.path.join(folder, "again.j2k")],
         }
         for form in FORMS:
-            program = built(top, folder, form)
+            program = built(folder, form)
             print(subprocess.run([program, coded, "both"], capture_output=True, text=True, check=True).stdout, end="")
             for mode in ("read", "decode", "both"):
                 runs[f"{form} {mode}"] = [program, coded, mode]

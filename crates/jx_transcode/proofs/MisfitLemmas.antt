@@ -37,6 +37,10 @@ pub each_told : {X : Type 0} (o : Option X) → IfSome o (λ x. o ≡ Some x)
 each_told None = tt
 each_told (Some x) = refl
 
+pub told_with : {X : Type 0} (P : Type 0) (o : Option X) → P → IfSome o (λ x. (o ≡ Some x) × P)
+told_with P None is = tt
+told_with P (Some x) is = (refl, is)
+
 pub none_still : {X : Type 0} (o p : Option X) (Q : X → Type 0) → o ≡ None → IfSome p (λ x. (o ≡ Some x) × Q x) → p ≡ None
 none_still o None Q none is = refl
 none_still o (Some x) Q none is = absurd (let e = is.0 in cc)

@@ -25,4 +25,4 @@ returns-then-input-ge-MOST-clause-misfit g c = untold _ c.refused.result.misfit 
 pub returns-in-Ok-clause-misfit : goal.returns-in-Ok-clause-misfit
 returns-in-Ok-clause-misfit g c =
     told_on _ _ c.answer_around.result.misfit c.answer_around.result.misfit (each_told c.answer_around.result.misfit)
-    (λ m is. (omega (arith, c.if-input-ge-MOST.false), _, c.requires_found, is)) c.answer_around.ensures.misfit
+    (λ m is. (omega (arith, c.if-input-ge-MOST.false), _, c.in-Ok.ensures.found, is)) c.answer_around.ensures.misfit

@@ -30,7 +30,7 @@ returns-clause-outcome g c = rw (c.refuse-in-Err-NoMemory.ensures.none, c.refuse
 pub returns-in-Ok-Transcode-clause-misfit : goal.returns-in-Ok-Transcode-clause-misfit
 returns-in-Ok-Transcode-clause-misfit g c =
     let asks = rw c.in-Ok-Transcode.field-0-is at c.in-Ok-Transcode.ensures.asks in
-    told_on _ _ c.run.result.misfit c.run.result.misfit (each_told c.run.result.misfit) (λ m is. (asks.0, rw (← asks.3) is)) c.run.ensures.misfit
+    told_on _ _ c.run.result.misfit c.run.result.misfit (each_told c.run.result.misfit) (λ m is. (asks.0, rw (← asks.4) is)) c.run.ensures.misfit
 
 pub returns-in-Ok-Make-clause-misfit : goal.returns-in-Ok-Make-clause-misfit
 returns-in-Ok-Make-clause-misfit g c = untold _ c.run-in-Ok-Make.result.misfit c.run-in-Ok-Make.ensures.misfit
