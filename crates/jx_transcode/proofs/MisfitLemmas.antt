@@ -18,8 +18,8 @@ use Rattle.jx_plan.specs.Planned.{HasPlanCause, IsUnplannedBy, LacksPlan}
 use Rattle.jx_options.specs.Wanted.{Wanted}
 use Rattle.jx_transcode.specs.Filed.{told_of_plan}
 use Rattle.jx_transcode.specs.Jp2Run.{raised}
-use Rattle.jx_transcode.specs.Misfits.{HasTile, IsMisfitBy, IsMisfitOf, IsMisfitOfFile, TellsMisfit}
-use Rattle.jx_transcode.specs.Outcome.{most_bytes}
+use Rattle.jx_transcode.specs.Misfits.{HasTile, IsChoice, IsMisfitBy, IsMisfitOf, IsMisfitOfFile, TellsMisfit}
+use Rattle.jx_transcode.specs.Outcome.{EndsAs, most_bytes}
 use Rattle.jx_transcode.specs.declared.status.Status.{Status}
 use Rattle.jx_transcode.specs.declared.status.Status.TheVariants as status
 use Rattle.jx_transcode.proofs.LeftLemmas.{IsFront, short_told}
@@ -44,6 +44,18 @@ told_with P (Some x) is = (refl, is)
 pub none_still : {X : Type 0} (o p : Option X) (Q : X → Type 0) → o ≡ None → IfSome p (λ x. (o ≡ Some x) × Q x) → p ≡ None
 none_still o None Q none is = refl
 none_still o (Some x) Q none is = absurd (let e = is.0 in cc)
+
+-- ---- a status that is a choice is that which was to be said
+failed_no_choice : (s : Status) → s ≡ status.WriteFault → IsChoice s → ⊥
+failed_no_choice s is choice = subst IsChoice is choice
+
+refused_no_choice : (s : Status) → s ≡ status.NoMemory → IsChoice s → ⊥
+refused_no_choice s is choice = subst IsChoice is choice
+
+pub still_said : (s : Status) (line : List ℕ) (late : Status) (before now : Option (List ℕ)) (fault_before fault_now : ℕ) → EndsAs s line late before now fault_before fault_now → IsChoice late → late ≡ s
+still_said s line late before now fault_before fault_now (inl said) choice = said.0
+still_said s line late before now fault_before fault_now (inr (inl failed)) choice = absurd (failed_no_choice late failed.0 choice)
+still_said s line late before now fault_before fault_now (inr (inr refused)) choice = absurd (refused_no_choice late refused.0 choice)
 
 -- ---- choice 2 is of a tile that is there
 broken_tile : (s : Stream) (style : Option Style) (blocks : List Block) (e : PlanFault) → IsPlaneBroken style blocks e → HasTile s e

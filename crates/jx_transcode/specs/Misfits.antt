@@ -41,6 +41,11 @@ pub record TellsMisfit (request : Request) (m : Misfit) (s : Status) (old : Mean
 
 -- ---- inner
 
+-- what was asked can't be had
+abbrev pub IsChoice : Status → Type 0
+IsChoice (status.Choice number place) = Unit {0}
+IsChoice _ = ⊥
+
 -- choice 2 is of a tile that is there
 abbrev pub HasTile : Stream → PlanFault → Type 0
 HasTile s (unplanned.Choice number place) = number ≡ 2 → place < tile_number s.siz

@@ -8,7 +8,7 @@ ghost use Rattle.jx_options.specs.Work.{MayBeWork};
 ghost use Rattle.jx_io.specs.Causes.{Rose};
 ghost use Rattle.jx_transcode.specs.Filed.{IsAnswered, unread_as};
 ghost use Rattle.jx_transcode.specs.Jp2Run.{EndsJp2, KeepsPositions};
-ghost use Rattle.jx_transcode.specs.Misfits.{IsMisfitOfFile, TellsMisfit};
+ghost use Rattle.jx_transcode.specs.Misfits.{IsChoice, IsMisfitOfFile, TellsMisfit};
 ghost use Rattle.jx_transcode.specs.Outcome.{EndsAs, EndsAsReadFault, line_of, most_bytes};
 ghost use Rattle.jx_transcode.specs.TranscodeRun.{Ends, TellsPositions};
 
@@ -77,14 +77,14 @@ fn keeps_positions(form: FormChoice, input: &[u8], status: Status) -> bool
     status == Status::Done && form == FormChoice::Keep && is_jp2(input) && holds_positions(input)
 }
 
-/// What is told beside a status, where it is still that after the line was said.
-fn told_still(misfit: Option<Misfit>, before: Status, status: Status) -> Option<Misfit>
-    ensures { IfSome result (λ told. (misfit ≡ Some told) × (status ≡ before)) }
+/// What is told beside choice 2, where the status is still a choice after the line was said.
+fn told_still(misfit: Option<Misfit>, status: Status) -> Option<Misfit>
+    ensures { IfSome result (λ told. (misfit ≡ Some told) × IsChoice status) }
 {
-    if status == before {
-        return misfit;
+    match status {
+        Status::Choice { .. } => misfit,
+        _ => None,
     }
-    None
 }
 
 /// Says the line of what was done. `positions` says whether boxes that hold positions were kept.
@@ -94,7 +94,7 @@ fn say_ending<S: Sink>(alloc: Global, say: &mut S, ending: Ending, positions: bo
     ensures tape { result.tape.items ≡ ending.tape.items }
     ensures failed { ending.status ≡ Status.WriteFault → result.status ≡ Status.WriteFault }
     ensures positions { IsTrue result.positions ↔ (IsTrue positions × (result.status ≡ Status.Done)) }
-    ensures misfit { IfSome result.misfit (λ told. (ending.misfit ≡ Some told) × (result.status ≡ ending.status)) }
+    ensures misfit { IfSome result.misfit (λ told. (ending.misfit ≡ Some told) × IsChoice result.status) }
 {
     let status = match ending.status {
         // nothing is said
@@ -109,7 +109,7 @@ fn say_ending<S: Sink>(alloc: Global, say: &mut S, ending: Ending, positions: bo
         blocks: ending.blocks,
         tape: ending.tape,
         positions: positions && status == Status::Done,
-        misfit: told_still(ending.misfit, ending.status, status),
+        misfit: told_still(ending.misfit, status),
     }
 }
 

@@ -1,7 +1,7 @@
 use Rattle.jx_transcode.proofs.OutcomeLemmas.{ends_as, ends_read, ends_refused, ends_said}
 use Rattle.std.proofs.Common.{arith}
 use Rattle.jx_rounds.proofs.WriteLemmas.{unrisen}
-use Rattle.jx_transcode.proofs.MisfitLemmas.{each_told, misfit_told, none_still, told_on, untold}
+use Rattle.jx_transcode.proofs.MisfitLemmas.{each_told, misfit_told, none_still, still_said, told_on, untold}
 use Rattle.jx_transcode.proofs.PositionsLemmas.{done_said, positions_told, positions_untold, unread_undone}
 use Rattle.jx_transcode.proofs.SaidLemmas.{read_said, rose_said, unread_said, unsaid, write_said}
 use Rattle.jx_transcode.proofs.StatusLemmas.{failed_unread, unread_either, unread_failed, unread_unwritten}
@@ -73,7 +73,7 @@ pub returns-in-Ok-clause-misfit : goal.returns-in-Ok-clause-misfit
 returns-in-Ok-clause-misfit g c =
     told_on _ _ c.say_ending.result.misfit c.say_ending.result.misfit (each_told c.say_ending.result.misfit)
     (λ m is. misfit_told c.args.request.now c.options.result.now c.deref-input.result.now c.answer_file-ending.result.status c.say_ending.result.status (g.F.Files.meaning c.args.files.now) c.answer_file-ending.result.misfit m
-    (rw (c.deref-input.ensures.value, ← c.from.ensures) c.in-Ok.ensures.bytes) c.options.ensures c.answer_file-ending.ensures.misfit is)
+    (rw (c.deref-input.ensures.value, ← c.from.ensures) c.in-Ok.ensures.bytes) c.options.ensures c.answer_file-ending.ensures.misfit (is.0, still_said _ _ _ _ _ _ _ c.say_ending.ensures.says is.1))
     c.say_ending.ensures.misfit
 
 pub returns-in-Err-clause-misfit : goal.returns-in-Err-clause-misfit
