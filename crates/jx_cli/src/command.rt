@@ -116,10 +116,11 @@ pub(crate) fn boxes<'a>(alloc: Global) -> Result<Command<'a>, AllocError>
     with_words(alloc, command, &["in"])
 }
 
-/// The command `same`, of two words.
+/// The command `same`, of two words and an option.
 pub(crate) fn same<'a>(alloc: Global) -> Result<Command<'a>, AllocError>
     ensures { IfOk result (λ c. app_of c ≡ same) }
 {
     let command = Command::new(alloc, "same");
-    with_words(alloc, command, &["a", "b"])
+    let command = with_words(alloc, command, &["a", "b"])?;
+    with_options(alloc, command, &[OptionName::Threads])
 }

@@ -5,7 +5,7 @@ ghost use Rattle.jx_options.specs.Wanted.{MayBeWanted};
 ghost use Rattle.jx_cli.specs.BoxesWords.{AsksBoxes, is_boxes};
 ghost use Rattle.jx_cli.specs.MakeFound.{AsksMake};
 ghost use Rattle.jx_cli.specs.MakeWords.{Make, MayBeMade, is_make, make_of};
-ghost use Rattle.jx_cli.specs.SameWords.{AsksSame, Pair, is_same};
+ghost use Rattle.jx_cli.specs.SameWords.{AsksSame, MayBeCompared, Pair, is_same, same_of};
 ghost use Rattle.jx_cli.specs.Words.{Asks, MayBeAsked, Request, Text, is_good, request_of};
 ghost use Rattle.jx_options.specs.Work.{MayBeWork};
 
@@ -34,9 +34,10 @@ pub fn boxes_have_words()
     ensures { (name : Text) → AsksBoxes name }
 {}
 
-/// Each two names are asked for by some good words of `same`.
+/// Good words of `same` ask for 1 to 64 threads, and each two names and such a number are asked for by some.
 pub fn same_has_words()
-    ensures { (names : Pair) → AsksSame names }
+    ensures made { (names : Pair) → MayBeCompared names → AsksSame names }
+    ensures asked { (words : List Text) → is_same words ≡ true → MayBeCompared (same_of words) }
 {}
 
 /// No words are good for two commands.

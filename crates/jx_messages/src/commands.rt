@@ -72,6 +72,7 @@ levels, wavelet, component transform and quantization, the steps of its bands,
 and each coefficient's sign, bits and decoded bit-planes; order, layers,
 precincts, styles and the sizes of code-blocks don't count. But where one file
 has a code-block that no packet includes, other sizes can make a difference.
+What is said doesn't depend on the threads.
 
 Example:
   jx transcode in.j2k out.j2k --order rpcl --style terminate
@@ -83,7 +84,7 @@ static USAGE: &str = "\
 Usage: jx transcode IN OUT [OPTIONS]
        jx make SEED WIDTH HEIGHT
        jx boxes IN
-       jx same A B
+       jx same A B [--threads N]
 
 jx --help says what they do, jx transcode --help all options.";
 
@@ -167,7 +168,13 @@ fn same<'a>(alloc: Global) -> Result<Command<'a>, AllocError> {
     let first = "a codestream or a JP2 file; - is standard input";
     let command = Command::new(alloc, "same").about(SAME).after_help(MEANING);
     let command = with_place(alloc, command, "a", "A", first)?;
-    with_place(alloc, command, "b", "B", "the one that is compared with it")
+    let command = with_place(alloc, command, "b", "B", "the one that is compared with it")?;
+    let threads = Arg::new(alloc, "threads")
+        .long("threads")
+        .help("threads that compare code-blocks;\n1 to 64, default 1; as in --threads 4")
+        .value_name("N")
+        .action(ArgAction::Set);
+    command.arg(threads)
 }
 
 /// The program without its commands.

@@ -2,6 +2,7 @@ mod BlockLemmas
 mod CellLemmas
 mod FieldLemmas
 mod FindLemmas
+mod RunLemmas
 mod HeaderLemmas
 mod OneLemmas
 mod PlaceLemmas

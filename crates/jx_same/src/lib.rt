@@ -7,6 +7,7 @@ mod blocks;
 mod decoded;
 mod headers;
 mod input;
+mod runs;
 mod segments;
 mod shelf;
 mod side;

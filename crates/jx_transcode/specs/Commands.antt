@@ -4,7 +4,7 @@ use Rattle.jx_options.specs.Wanted.{MayBeWanted}
 use Rattle.jx_options.specs.Work.{MayBeWork}
 use Rattle.jx_cli.specs.BoxesWords.{boxes_of, is_boxes}
 use Rattle.jx_cli.specs.MakeWords.{Make, MayBeMade, is_make, make_of}
-use Rattle.jx_cli.specs.SameWords.{is_same, same_of}
+use Rattle.jx_cli.specs.SameWords.{MayBeCompared, is_same, same_of}
 use Rattle.jx_cli.specs.Words.{Text, is_good, request_of}
 use Rattle.jx_transcode.specs.declared.commands.Command.{Command}
 use Rattle.jx_transcode.specs.declared.commands.Command.TheVariants as command
@@ -29,4 +29,4 @@ abbrev pub MayBeDone : Command → Type 0
 MayBeDone (command.Transcode request) = MayBeWanted request.wanted × MayBeWork request.work
 MayBeDone (command.Make seed width height) = MayBeMade (made_by seed width height)
 MayBeDone (command.Boxes name) = Unit {0}
-MayBeDone (command.Same names) = Unit {0}
+MayBeDone (command.Same names) = MayBeCompared names

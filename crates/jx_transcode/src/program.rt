@@ -36,7 +36,8 @@ use std::thread::Threads;
 /// Those of `boxes` name a JP2 file, whose boxes are said in lines.
 ///
 /// Those of `same` name two files, either of which may be a JP2 file. The first is read and judged, then the second is opened, read and
-/// judged, and the line says whether their codestreams mean the same, or the first value in which they differ.
+/// judged, and the line says whether their codestreams mean the same, or the first value in which they differ. Code-blocks are compared by
+/// as many threads as the words ask for.
 ///
 /// The code-blocks of a round of which some are coded anew are made by as many workers as the words ask for, inside both windows;
 /// `gate` is told of each of them. What is written doesn't depend on them.
@@ -106,7 +107,7 @@ pub fn run<R: Threads + Wait + Sync, F: Files, S: Sink, G: Gate + Sync>(
             make::run(rt, alloc, asked, say, gate, &mut planners)
         }
         Ok(Command::Boxes(name)) => boxes::run(alloc, name.as_str(), files, say),
-        Ok(Command::Same(names)) => same::run(alloc, &names, files, say),
+        Ok(Command::Same(names)) => same::run(rt, alloc, &names, files, say),
         Err(WordsFault::Words) => refuse(alloc, say, Status::Words),
         Err(WordsFault::NoMemory) => refuse(alloc, say, Status::NoMemory),
     }

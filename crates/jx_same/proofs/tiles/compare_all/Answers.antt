@@ -12,7 +12,7 @@ use Rattle.jx_same.proofs.TileLemmas.{behind_of, tile_found}
 use Rattle.jx_same.proofs.tiles.compare_all.Goals as goal
 
 pub loop-tile-init : goal.loop-tile-init
-loop-tile-init c = record {
+loop-tile-init g c = record {
   first_a = refl;
   first_b = refl;
   known = λ is. absurd (cc);
@@ -20,14 +20,14 @@ loop-tile-init c = record {
 }
 
 pub new-requires-in-loop-tile-clause-tile : goal.new-requires-in-loop-tile-clause-tile
-new-requires-in-loop-tile-clause-tile c =
+new-requires-in-loop-tile-clause-tile g c =
     let same = siz_back c.args.a.stream.now c.args.b.stream.now c.args.a.blocks.now c.args.b.blocks.now c.requires.siz in
     let tiles : tile_number c.args.a.stream.now.siz ≡ tile_number c.args.b.stream.now.siz = ap (λ (z : Siz). tile_number z) same in
     let below : c.loop-tile.tile < tile_number c.args.a.stream.now.siz = omega (arith, c.loop-tile-test.true, c.tile_count-tile-end.ensures) in
     subst (λ (n : ℕ). c.loop-tile.tile < n) tiles below
 
 pub compare_tile-requires-clause-known : goal.compare_tile-requires-clause-known
-compare_tile-requires-clause-known c = λ is.
+compare_tile-requires-clause-known g c = λ is.
     (let a = c.args.a in
     let b = c.args.b in
     let t = c.loop-tile.tile in
@@ -36,7 +36,7 @@ compare_tile-requires-clause-known c = λ is.
     (headers_from a.stream.now b.stream.now t (c.are_bare-bare.ensures parts.1) (c.loop-tile.invariant.known parts.0)))
 
 pub returns-in-Some : goal.returns-in-Some
-returns-in-Some c =
+returns-in-Some g c =
     let a = c.args.a in
     let b = c.args.b in
     let found = tile_found a b c.in_ok-side_a.side_a c.in_ok-side_b.side_b c.loop-tile.tile c.in_ok-spot.field-0 c.in_ok-side_a.ensures c.in_ok-side_b.ensures c.in_ok-spot.ensures in
@@ -44,7 +44,7 @@ returns-in-Some c =
     sym (joined_stops (differs (meaning_in a) (meaning_in b)) (tile_items a.stream.now) c.loop-tile.tile (tile_number a.stream.now.siz) c.in-Some.spot c.loop-tile.invariant.none (sym found ∙ c.in-Some.is) below)
 
 pub loop-tile-preserved : goal.loop-tile-preserved
-loop-tile-preserved c =
+loop-tile-preserved g c =
     let a = c.args.a in
     let b = c.args.b in
     let t = c.loop-tile.tile in

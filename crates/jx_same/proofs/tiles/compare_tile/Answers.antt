@@ -7,14 +7,14 @@ use Rattle.jx_same.proofs.SharedLemmas.{empty_none}
 use Rattle.jx_same.proofs.tiles.compare_tile.Goals as goal
 
 pub loop-comp-init : goal.loop-comp-init
-loop-comp-init c = record {
+loop-comp-init g c = record {
   empty = λ lt. absurd (omega (arith, lt));
   none = joined_begins (differs (meaning_at c.args.a.now) (meaning_at c.args.b.now)) (component_items (geometry_at c.args.a.now));
 }
 
 pub compare_unless-requires-clause-known : goal.compare_unless-requires-clause-known
 unfolding tile_items
-compare_unless-requires-clause-known c = λ is.
+compare_unless-requires-clause-known g c = λ is.
     (let a = c.args.a.now in
     let b = c.args.b.now in
     let parts = and_parts c.args.known c.is_empty_after-empty.result (sym c.both.ensures ∙ is) in
@@ -23,14 +23,14 @@ compare_unless-requires-clause-known c = λ is.
 
 pub returns-in-Some : goal.returns-in-Some
 unfolding tile_items
-returns-in-Some c =
+returns-in-Some g c =
     let all = length c.args.a.now.stream.siz.comps in
     let below : c.loop-comp.comp < all = omega (arith, c.loop-comp-test.true, c.comps-comp-end.ensures) in
     sym (joined_stops (differs (meaning_at c.args.a.now) (meaning_at c.args.b.now)) (component_items (geometry_at c.args.a.now)) c.loop-comp.comp all c.in-Some.spot
     c.loop-comp.invariant.none (sym c.in_ok-spot.ensures ∙ c.in-Some.is) below)
 
 pub loop-comp-preserved : goal.loop-comp-preserved
-loop-comp-preserved c = record {
+loop-comp-preserved g c = record {
   empty = λ lt. rw (let e : (c.loop-comp.comp + 1) - 1 ≡ c.loop-comp.comp = omega arith in e) c.is_empty_after-empty.ensures;
   none = joined_goes (differs (meaning_at c.args.a.now) (meaning_at c.args.b.now)) (component_items (geometry_at c.args.a.now)) c.loop-comp.comp c.loop-comp.invariant.none
       (sym c.in_ok-spot.ensures ∙ nothing c.in_ok-spot.field-0 (λ x is. c.in_default.not-Some x is));

@@ -44,6 +44,9 @@ returns-in-Ok-read_same-clause-asks c = (
   c.in-Ok-read_same.ensures.value,
 )
 
+pub returns-in-Ok-read_same-clause-may : goal.returns-in-Ok-read_same-clause-may
+returns-in-Ok-read_same-clause-may c = c.in-Ok-read_same.ensures.may
+
 pub returns-in-Err-clause-words : goal.returns-in-Err-clause-words
 returns-in-Err-clause-words c = λ words. (
   c.in-Err-Words.ensures.words (rw c.in-Err-Words.field-0-is refl),
