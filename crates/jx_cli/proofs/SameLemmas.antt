@@ -10,7 +10,7 @@ use Rattle.jx_cli.specs.MakeFound.{texts_of, under}
 use Rattle.jx_cli.specs.MakeWords.{is_make, names_make}
 use Rattle.jx_cli.specs.SameWords.{AsksSame, Pair, is_same, is_taken, named_in, pair_in, same, same_of}
 use Rattle.jx_cli.specs.Words.{Text, is_good, names_command}
-use Rattle.jx_cli.proofs.BoxesLemmas.{no_fault, not_named, some_fault}
+use Rattle.jx_cli.proofs.BoxesLemmas.{no_fault, some_fault}
 use Rattle.jx_cli.proofs.CommandLemmas.{none_moved, some_moved, texts_moved}
 
 pub same_free : is_simple_and_free same ≡ true
@@ -56,25 +56,6 @@ words_named names = rw (first_found names.first names.second, second_found names
 
 pub has_same_words : (names : Pair) → AsksSame names
 has_same_words names = record { words = [] ∷ words_for names.first names.second; good = words_good names.first names.second; named = words_named names }
-
--- ---- no words are good for this command and another
-pub same_not_transcode : (words : List Text) → is_good words ≡ true → is_same words ≡ false
-unfolding is_good is_same
-same_not_transcode words good =
-    let named : names_command words ≡ true = (and_parts (names_command words) _ good).0 in
-    rw (not_named (slice_index_or words 1 []) (codes "transcode") (codes "same") refl named) refl
-
-pub same_not_make : (words : List Text) → is_make words ≡ true → is_same words ≡ false
-unfolding is_make is_same
-same_not_make words good =
-    let named : names_make words ≡ true = (and_parts (names_make words) _ good).0 in
-    rw (not_named (slice_index_or words 1 []) (codes "make") (codes "same") refl named) refl
-
-pub same_not_boxes : (words : List Text) → is_boxes words ≡ true → is_same words ≡ false
-unfolding is_boxes is_same
-same_not_boxes words good =
-    let named : names_boxes words ≡ true = (and_parts (names_boxes words) _ good).0 in
-    rw (not_named (slice_index_or words 1 []) (codes "boxes") (codes "same") refl named) refl
 
 -- ---- two texts
 pub pair_is : (a b c d : Text) → a ≡ c → b ≡ d → ◌≡◌ {A = Pair} (record { first = a; second = b }) (record { first = c; second = d })
