@@ -1,19 +1,16 @@
 -- Words of `same`, and what they ask for.
-use Rattle.std.proofs.Common.{◌≡◌, ◌≤◌, ◌∙◌, ap, sym, refl, arith, ℕ, true, false, Bool, List, [], ◌∷◌, ◌++◌, Option, Some, is_some, codes, drop, slice_index_or}
+use Rattle.std.proofs.Common.{◌≡◌, ◌≤◌, ◌∙◌, ap, sym, refl, arith, ℕ, true, false, Bool, List, [], ◌∷◌, ◌++◌, Option, Some, is_some, codes, drop}
 use Rattle.std.specs.Fmt.{decimal}
-use Rattle.std.proofs.lemmas.Bool.{and_parts}
 use Rattle.clap.specs.Words.{App, fault_of, is_simple_and_free}
 use Rattle.clap.proofs.OnLiterals.{clap_on_literals}
-use Rattle.jx_cli.specs.BoxesWords.{is_boxes, names_boxes}
 use Rattle.jx_cli.specs.Command.{with_option, with_place}
 use Rattle.jx_cli.specs.MakeFound.{texts_of, under}
-use Rattle.jx_cli.specs.MakeWords.{is_make, names_make}
 use Rattle.jx_cli.specs.SameWords.{AsksSame, MayBeCompared, Pair, is_asked, is_same, is_taken, pair_by, same, same_of, threads_in}
-use Rattle.jx_cli.specs.Words.{Text, is_good, names_command, said_of}
+use Rattle.jx_cli.specs.Words.{Text, said_of}
 use Rattle.jx_options.specs.declared.names.OptionName.TheVariants as option
 use Rattle.jx_options.specs.Names.{threads_said}
 use Rattle.jx_options.proofs.NumberLemmas.{number_spelled}
-use Rattle.jx_cli.proofs.BoxesLemmas.{no_fault, not_named}
+use Rattle.jx_cli.proofs.BoxesLemmas.{no_fault}
 use Rattle.jx_cli.proofs.CommandLemmas.{asked_by, none_moved, some_moved, texts_moved, unasked_by}
 use Rattle.jx_cli.proofs.WantedLemmas.{number_within}
 
@@ -85,22 +82,3 @@ words_named p may =
 
 pub has_same_words : (p : Pair) → MayBeCompared p → AsksSame p
 has_same_words p may = record { words = [] ∷ words_for p.first p.second (decimal p.threads); good = words_good p may; named = words_named p may }
-
--- ---- no words are good for this command and another
-pub same_not_transcode : (words : List Text) → is_good words ≡ true → is_same words ≡ false
-unfolding is_good is_same
-same_not_transcode words good =
-    let named : names_command words ≡ true = (and_parts (names_command words) _ good).0 in
-    rw (not_named (slice_index_or words 1 []) (codes "transcode") (codes "same") refl named) refl
-
-pub same_not_make : (words : List Text) → is_make words ≡ true → is_same words ≡ false
-unfolding is_make is_same
-same_not_make words good =
-    let named : names_make words ≡ true = (and_parts (names_make words) _ good).0 in
-    rw (not_named (slice_index_or words 1 []) (codes "make") (codes "same") refl named) refl
-
-pub same_not_boxes : (words : List Text) → is_boxes words ≡ true → is_same words ≡ false
-unfolding is_boxes is_same
-same_not_boxes words good =
-    let named : names_boxes words ≡ true = (and_parts (names_boxes words) _ good).0 in
-    rw (not_named (slice_index_or words 1 []) (codes "boxes") (codes "same") refl named) refl

@@ -1,3 +1,5 @@
 pub mod Text
 pub mod Orders
 pub mod Facts
+pub mod Json
+pub mod File

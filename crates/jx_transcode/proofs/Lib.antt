@@ -22,7 +22,9 @@ mod SomeVerdictLemmas
 mod StatusLemmas
 mod WrongLemmas
 mod MakeLemmas
+mod LinesLemmas
 mod BoxesLemmas
+mod ShowLemmas
 mod BoxesVerdictLemmas
 pub mod RunLemmas
 mod AcceptedLemmas
