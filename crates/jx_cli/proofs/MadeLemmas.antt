@@ -6,7 +6,7 @@ use Rattle.std.specs.Fmt.{decimal}
 use Rattle.std.proofs.lemmas.Bool.{cases_Bool, cases_lt}
 use Rattle.std.proofs.lemmas.List.{append_assoc}
 use Rattle.std.proofs.lemmas.Slice.Eq.{bytes_eq-Decides}
-use Rattle.std.proofs.lemmas.Fmt.{decimal_digit}
+use Rattle.std.proofs.lemmas.Fmt.{decimal_digit, decimal_injective}
 use Rattle.clap.specs.Words.{fault_of}
 use Rattle.clap.proofs.OnLiterals.{clap_on_literals}
 use Rattle.jx_base.specs.declared.style.Style.{Style}
@@ -16,7 +16,7 @@ use Rattle.jx_options.specs.declared.FormChoice.TheVariants as form
 use Rattle.jx_options.specs.declared.PartChoice.{PartChoice}
 use Rattle.jx_options.specs.declared.PartChoice.TheVariants as parts
 use Rattle.jx_cli.specs.Command.{transcode, with_flag, with_option, with_place}
-use Rattle.jx_options.specs.Names.{form_said, parts_said}
+use Rattle.jx_options.specs.Names.{form_said, parts_said, reduce_said}
 use Rattle.jx_options.specs.Values.{ArePrecincts, precincts_in, precincts_said, precincts_text, style_said, style_text, value_in, whole_choices}
 use Rattle.jx_cli.specs.Words.{Asks, Given, MayBeAsked, Request, Text, are_values, given_by, given_in, is_good, request_of, wanted_by, work_by}
 use Rattle.jx_options.specs.Work.{MayBeWork, Work}
@@ -36,7 +36,7 @@ flag_words false flag words = words
 abbrev made_words : Given → Bool → Bool → Bool → List Text
 made_words g sop eph plt =
     codes "transcode" ∷ (codes "--order=" ++ g.order) ∷ (codes "--precincts=" ++ g.precincts) ∷ (codes "--layers=" ++ g.layers) ∷ (codes "--style=" ++ g.style) ∷ (codes "--tile-parts=" ++ g.parts)
-    ∷ (codes "--form=" ++ g.form) ∷ (codes "--threads=" ++ g.threads) ∷ (codes "--window=" ++ g.window) ∷ (codes "--window-bytes=" ++ g.window_bytes)
+    ∷ (codes "--form=" ++ g.form) ∷ (codes "--reduce=" ++ g.reduce) ∷ (codes "--threads=" ++ g.threads) ∷ (codes "--window=" ++ g.window) ∷ (codes "--window-bytes=" ++ g.window_bytes)
     ∷ flag_words sop (codes "--sop") (flag_words eph (codes "--eph") (flag_words plt (codes "--plt") (codes "--" ∷ g.from ∷ g.to ∷ [])))
 
 abbrev made_given : Given → Bool → Bool → Bool → Given
@@ -146,6 +146,7 @@ given_for r = record {
   eph = r.wanted.marks.eph;
   plt = r.wanted.marks.plt;
   form = form_word r.form;
+  reduce = decimal r.reduce;
   threads = decimal r.work.threads;
   window = decimal r.work.window;
   window_bytes = decimal r.work.most;
@@ -166,10 +167,28 @@ window_back w may = number_spelled 1024 w.window (omega arith) may.some_window m
 most_back : (w : Work) → MayBeWork w → number_in 268435456 (decimal w.most) ≡ Some w.most
 most_back w may = number_spelled 268435456 w.most (omega arith) may.some_most may.few_most
 
+-- 0 is the one number that begins with its digit
+reduce_back : (n : ℕ) → n ≤ 32 → reduce_said (decimal n) ≡ Some n
+reduce_back n few = elim (cases_lt 0 n) [
+  | inl some ↦
+      let other : bytes_eq (decimal n) (codes "0") ≡ false = elim (cases_Bool (bytes_eq (decimal n) (codes "0"))) [
+        | inl t ↦
+            let same : decimal n ≡ decimal 0 = (bytes_eq-Decides (decimal n) (codes "0")).0 t ∙ sym (decimal_digit 0 (omega arith)) in
+            let none : n ≡ 0 = decimal_injective n 0 (omega arith) (omega arith) same in
+            absurd (omega (arith, none, some))
+        | inr t ↦ t
+      ] in
+      rw other (number_spelled 32 n (omega arith) some few)
+  | inr none ↦
+      let is : n ≡ 0 = omega arith in
+      let digit : decimal n ≡ codes "0" = ap decimal is ∙ decimal_digit 0 (omega arith) in
+      rw digit (ap Some (sym is))
+]
+
 values_good : (r : Request) → MayBeAsked r → are_values (given_for r) ≡ true
 unfolding are_values
 values_good r may =
-    rw (order_back r.wanted.order may.order, precincts_back r.wanted.precincts may.precincts, parts_back r.wanted.marks.parts, style_back r.wanted.style may.style, form_back r.form, threads_back r.work may.work, window_back r.work may.work, most_back r.work may.work) refl
+    rw (order_back r.wanted.order may.order, precincts_back r.wanted.precincts may.precincts, parts_back r.wanted.marks.parts, style_back r.wanted.style may.style, form_back r.form, reduce_back r.reduce may.reduce, threads_back r.work may.work, window_back r.work may.work, most_back r.work may.work) refl
 
 values_made : (r : Request) → MayBeAsked r → wanted_by (given_for r) ≡ r.wanted
 unfolding wanted_by
@@ -189,7 +208,7 @@ made_good r may =
 
 made_request : (r : Request) → MayBeAsked r → request_of ([] ∷ words_for r) ≡ r
 unfolding request_of
-made_request r may = rw (found_for r, values_made r may, form_back r.form, work_made r may) refl
+made_request r may = rw (found_for r, values_made r may, form_back r.form, reduce_back r.reduce may.reduce, work_made r may) refl
 
 pub has_words : (r : Request) → MayBeAsked r → Asks r
 has_words r may = record { words = [] ∷ words_for r; good = made_good r may; made = made_request r may }

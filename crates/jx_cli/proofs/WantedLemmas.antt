@@ -1,12 +1,13 @@
 -- What is asked may be wanted.
-use Rattle.std.proofs.Common.{◌≡◌, ◌<◌, ◌≤◌, ◌⊎◌, subst, sym, drop, refl, arith, ℕ, List, [], Option, None, Some, IfSome, inl, inr, unwrap_or}
+use Rattle.std.proofs.Common.{◌≡◌, ◌<◌, ◌≤◌, ◌⊎◌, subst, sym, drop, refl, arith, ℕ, List, [], Option, None, Some, IfSome, inl, inr, Bool, true, false, codes, if◌then◌else◌, unwrap_or}
 use Rattle.std.specs.Option.{option_map, option_or}
+use Rattle.std.specs.Str.{bytes_eq}
 use Rattle.std.proofs.lemmas.List.Elements.{All-nil}
 use Rattle.jx_base.specs.OrderNumbers.{IsOrderNumber}
 use Rattle.jx_marker.specs.Ranges.{AreBytes}
 use Rattle.jx_base.specs.declared.style.Style.{Style}
 use Rattle.jx_options.specs.Wanted.{MayBeStyle, MayBeWanted}
-use Rattle.jx_options.specs.Names.{order_said}
+use Rattle.jx_options.specs.Names.{order_said, reduce_said}
 use Rattle.jx_options.specs.Values.{ArePrecincts, precincts_in, precincts_said, style_said, value_in, whole_choices}
 use Rattle.jx_cli.specs.Words.{Given, MayBeAsked, given_in, request_by, request_of, wanted_by, work_by}
 use Rattle.jx_options.specs.Work.{MayBeWork}
@@ -81,6 +82,22 @@ work_may_be g =
     let most = number_within 268435456 268435456 g.window_bytes (omega arith, omega arith) in
     record { some_threads = threads.0; few_threads = threads.1; some_window = window.0; few_window = window.1; some_most = most.0; few_most = most.1 }
 
+-- 0, a number that is said, or the default
+reduce_within : (text : List ℕ) → unwrap_or (reduce_said text) 0 ≤ 32
+reduce_within text = by (bytes_eq text (codes "0")) (number_in 32 text) refl
+  where
+    by : (zeroth : Bool) (o : Option ℕ) → number_in 32 text ≡ o → unwrap_or (if zeroth then Some 0 else o) 0 ≤ 32
+    by true o is = omega arith
+    by false None is = omega arith
+    by false (Some n) is = (number_read 32 n text is).1
+
+pub given_reduce_few : (g : Given) → (request_by g).reduce ≤ 32
+given_reduce_few g = reduce_within g.reduce
+
+pub may_be_reduced : (words : List (List ℕ)) → (request_of words).reduce ≤ 32
+unfolding request_of
+may_be_reduced words = given_reduce_few (given_in (drop 1 words))
+
 pub may_be_wanted : (words : List (List ℕ)) → MayBeWanted (request_of words).wanted
 unfolding request_of
 may_be_wanted words = given_may_be _
@@ -91,7 +108,7 @@ may_be_work words = work_may_be _
 
 request_asked : (g : Given) → MayBeAsked (request_by g)
 unfolding wanted_by
-request_asked g = record { order = order_asked g.order; precincts = precincts_asked g.precincts; style = style_few g.style; work = work_may_be g }
+request_asked g = record { order = order_asked g.order; precincts = precincts_asked g.precincts; style = style_few g.style; reduce = given_reduce_few g; work = work_may_be g }
 
 pub asked : (words : List (List ℕ)) → MayBeAsked (request_of words)
 unfolding request_of

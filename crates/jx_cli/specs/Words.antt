@@ -1,5 +1,5 @@
 -- What the words of the command line ask for.
-use Rattle.std.specs.Prelude.{◌≡◌, ◌⊎◌, IfSome, true, ℕ, ◌&&◌, Bool, List, [], length, drop, slice_index_or, codes, eqb, Option, is_some, None, unwrap_or}
+use Rattle.std.specs.Prelude.{◌≡◌, ◌≤◌, ◌⊎◌, IfSome, true, ℕ, ◌&&◌, Bool, List, [], length, drop, slice_index_or, codes, eqb, Option, is_some, None, unwrap_or}
 use Rattle.std.specs.Str.{bytes_eq}
 use Rattle.clap.specs.Words.{fault_of, first_of, matches_of}
 use Rattle.jx_base.specs.OrderNumbers.{IsOrderNumber}
@@ -11,19 +11,21 @@ use Rattle.jx_options.specs.declared.PartChoice.TheVariants as parts
 use Rattle.jx_cli.specs.Command.{transcode}
 use Rattle.jx_options.specs.declared.names.OptionName.{OptionName}
 use Rattle.jx_options.specs.declared.names.OptionName.TheVariants as option
-use Rattle.jx_options.specs.Names.{bytes_said, form_said, name_of, order_said, parts_said, threads_said, window_said}
+use Rattle.jx_options.specs.Names.{bytes_said, form_said, name_of, order_said, parts_said, reduce_said, threads_said, window_said}
 use Rattle.jx_options.specs.Values.{ArePrecincts, precincts_said, style_said}
 
 -- the bytes of a word
 abbrev pub Text : Type 0
 Text = List ℕ
 
--- the input's name and the output's, how the codestream is to be written, what is written of a JP2 file, and how the work is done
+-- the input's name and the output's, how the codestream is to be written, what is written of a JP2 file, how many of the highest resolutions are
+-- left out, and how the work is done
 pub record Request : Type 0 where
   pub from : Text
   pub to : Text
   pub wanted : Wanted
   pub form : FormChoice
+  pub reduce : ℕ
   pub work : Work
 
 -- what clap finds in the words from the command's name on, with the values of options that aren't among them
@@ -39,6 +41,7 @@ pub record Given : Type 0 where
   pub eph : Bool
   pub plt : Bool
   pub form : Text
+  pub reduce : Text
   pub threads : Text
   pub window : Text
   pub window_bytes : Text
@@ -69,6 +72,7 @@ given_by found = record {
   eph = flag_of found option.Eph;
   plt = flag_of found option.Plt;
   form = said_of found option.Form;
+  reduce = said_of found option.Reduce;
   threads = said_of found option.Threads;
   window = said_of found option.Window;
   window_bytes = said_of found option.WindowBytes;
@@ -87,7 +91,7 @@ is_work g = is_some (threads_said g.threads) && (is_some (window_said g.window) 
 
 -- each value is one of its option's
 unfoldable pub are_values : Given → Bool
-are_values g = is_some (order_said g.order) && (is_some (precincts_said g.precincts) && (is_some (parts_said g.parts) && (is_some (style_said g.style) && (is_some (form_said g.form) && is_work g))))
+are_values g = is_some (order_said g.order) && (is_some (precincts_said g.precincts) && (is_some (parts_said g.parts) && (is_some (style_said g.style) && (is_some (form_said g.form) && (is_some (reduce_said g.reduce) && is_work g)))))
 
 unfoldable pub wanted_by : Given → Wanted
 wanted_by g = record {
@@ -106,7 +110,7 @@ work_by g = record {
 }
 
 abbrev pub request_by : Given → Request
-request_by g = record { from = g.from; to = g.to; wanted = wanted_by g; form = unwrap_or (form_said g.form) form.Keep; work = work_by g }
+request_by g = record { from = g.from; to = g.to; wanted = wanted_by g; form = unwrap_or (form_said g.form) form.Keep; reduce = unwrap_or (reduce_said g.reduce) 0; work = work_by g }
 
 abbrev pub names_command : List Text → Bool
 names_command words = bytes_eq (slice_index_or words 1 []) (codes "transcode")
@@ -123,12 +127,13 @@ is_good words = names_command words && (are_taken (drop 1 words) && are_values (
 unfoldable pub request_of : List Text → Request
 request_of words = request_by (given_in (drop 1 words))
 
--- a request that words can make: by one of the five orders, with the precincts of 1 to 33 resolutions and a style of five bits; the words
--- for the planners of layers are any text
+-- a request that words can make: by one of the five orders, with the precincts of 1 to 33 resolutions and a style of five bits, without 0 to 32
+-- resolutions; the words for the planners of layers are any text
 pub record MayBeAsked (r : Request) : Type 0 where
   pub order : IfSome r.wanted.order IsOrderNumber
   pub precincts : IfSome r.wanted.precincts (λ bytes. (bytes ≡ []) ⊎ ArePrecincts bytes)
   pub style : IfSome r.wanted.style MayBeStyle
+  pub reduce : r.reduce ≤ 32
   pub work : MayBeWork r.work
 
 -- good words that make a request

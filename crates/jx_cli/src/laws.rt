@@ -1,6 +1,6 @@
 //! Laws over the definitions: which requests words make, and which pictures they ask for. They run no code.
 
-ghost use Rattle.std.specs.Prelude.{◌≡◌, List, true};
+ghost use Rattle.std.specs.Prelude.{◌≡◌, ◌≤◌, List, true};
 ghost use Rattle.jx_options.specs.Wanted.{MayBeWanted};
 ghost use Rattle.jx_cli.specs.BoxesWords.{AsksBoxes};
 ghost use Rattle.jx_cli.specs.CommandNames.{CommandName, is_good_for};
@@ -11,10 +11,12 @@ ghost use Rattle.jx_cli.specs.ShowWords.{AsksShow, Show};
 ghost use Rattle.jx_cli.specs.Words.{Asks, MayBeAsked, Request, Text, is_good, request_of};
 ghost use Rattle.jx_options.specs.Work.{MayBeWork};
 
-/// What words ask for is an order and a style that there are, exponents that are bytes, and work within its bounds.
+/// What words ask for is an order and a style that there are, exponents that are bytes, 0 to 32 resolutions to leave out, and work within its
+/// bounds.
 pub fn requests_may_be_wanted()
     ensures wanted { (words : List Text) → MayBeWanted (request_of words).wanted }
     ensures work { (words : List Text) → MayBeWork (request_of words).work }
+    ensures reduce { (words : List Text) → (request_of words).reduce ≤ 32 }
 {}
 
 /// Good words make the requests that may be asked, and each of these is made by some. The words for the planners of layers are any

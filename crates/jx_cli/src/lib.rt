@@ -31,6 +31,8 @@ pub struct Request {
     pub options: Options,
     /// What is written of a JP2 file.
     pub form: FormChoice,
+    /// How many of the highest resolutions are left out, 0 to 32.
+    pub reduce: u8,
     /// How the work is done.
     pub work: Work,
 }
@@ -41,7 +43,7 @@ impl Model for Request {
 
     ghost Value = { Request };
 
-    ghost view = { λ r. record { from = string_bytes r.from; to = string_bytes r.to; wanted = r.options; form = r.form; work = r.work } };
+    ghost view = { λ r. record { from = string_bytes r.from; to = string_bytes r.to; wanted = r.options; form = r.form; reduce = r.reduce; work = r.work } };
 }
 
 impl Request {
@@ -71,6 +73,13 @@ impl Request {
         ensures { result ≡ self.now.form }
     {
         self.form
+    }
+
+    /// How many of the highest resolutions are left out, 0 to 32.
+    pub fn reduce(&self) -> u8
+        ensures { result ≡ self.now.reduce }
+    {
+        self.reduce
     }
 
     /// How the work is done.

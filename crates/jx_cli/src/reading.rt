@@ -15,8 +15,8 @@ use clap::ArgMatches;
 use jx_base::{NoMemory, Style};
 use jx_options::{
     FormChoice, Marks, OptionName, Options, OrderChoice, PartChoice, PrecinctChoice, Work,
-    bytes_said, form_said, order_said, parts_said, precincts_said, style_said, threads_said,
-    window_said,
+    bytes_said, form_said, order_said, parts_said, precincts_said, reduce_said, style_said,
+    threads_said, window_said,
 };
 use std::alloc::Global;
 use std::marker::Model;
@@ -35,6 +35,7 @@ struct Given<'a> {
     eph: bool,
     plt: bool,
     form: &'a str,
+    reduce: &'a str,
     threads: &'a str,
     window: &'a str,
     window_bytes: &'a str,
@@ -57,6 +58,7 @@ impl<'a> Model for Given<'a> {
       eph = g.eph;
       plt = g.plt;
       form = g.form.now;
+      reduce = g.reduce.now;
       threads = g.threads.now;
       window = g.window.now;
       window_bytes = g.window_bytes.now;
@@ -80,6 +82,7 @@ fn given_by<'a>(matches: &ArgMatches<'a>) -> Given<'a>
         eph: flag_of(matches, OptionName::Eph),
         plt: flag_of(matches, OptionName::Plt),
         form: said_of(matches, OptionName::Form),
+        reduce: said_of(matches, OptionName::Reduce),
         threads: said_of(matches, OptionName::Threads),
         window: said_of(matches, OptionName::Window),
         window_bytes: said_of(matches, OptionName::WindowBytes),
@@ -127,6 +130,7 @@ fn made(
     parts: PartChoice,
     style: Option<Style>,
     form: FormChoice,
+    reduce: u8,
     work: Work,
 ) -> Result<Request, NoMemory>
     ensures { IfOk result (λ r. r ≡ record {
@@ -140,6 +144,7 @@ fn made(
         marks = record { sop = given.now.sop; eph = given.now.eph; plt = given.now.plt; parts = parts };
       };
       form = form;
+      reduce = reduce;
       work = work;
     }) }
 {
@@ -159,6 +164,7 @@ fn made(
             },
         },
         form,
+        reduce,
         work,
     })
 }
@@ -182,6 +188,9 @@ fn request_by(alloc: Global, given: &Given<'_>) -> Result<Request, WordsFault>
     let Some(form) = form_said(given.form) else {
         return Err(WordsFault::Words);
     };
+    let Some(reduce) = reduce_said(given.reduce) else {
+        return Err(WordsFault::Words);
+    };
     let Some(work) = work_by(given) else {
         return Err(WordsFault::Words);
     };
@@ -190,7 +199,9 @@ fn request_by(alloc: Global, given: &Given<'_>) -> Result<Request, WordsFault>
         Ok(None) => return Err(WordsFault::Words),
         Err(NoMemory) => return Err(WordsFault::NoMemory),
     };
-    match made(alloc, given, order, precincts, parts, style, form, work) {
+    match made(
+        alloc, given, order, precincts, parts, style, form, reduce, work,
+    ) {
         Ok(request) => Ok(request),
         Err(NoMemory) => Err(WordsFault::NoMemory),
     }
@@ -220,6 +231,7 @@ pub fn read_words(alloc: Global, words: &[String]) -> Result<Request, WordsFault
     ensures value { IfOk result (λ r. r ≡ request_of (map string_bytes words.now)) }
     ensures wanted { IfOk result (λ r. MayBeWanted r.wanted) }
     ensures work { IfOk result (λ r. MayBeWork r.work) }
+    ensures reduce { IfOk result (λ r. r.reduce ≤ 32) }
     ensures words { result ≡ Err WordsFault.Words → is_good (map string_bytes words.now) ≡ false }
 {
     if !names_command(words) {

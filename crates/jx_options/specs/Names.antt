@@ -1,5 +1,6 @@
 -- The table of the options of `jx transcode`: what each is called, what stands for it where it isn't among the words, which words are its values, and what the help says of it.
-use Rattle.std.specs.Prelude.{ℕ, Bool, true, false, List, [], ◌∷◌, Option, None, Some, map, codes, is_some}
+use Rattle.std.specs.Prelude.{ℕ, Bool, true, false, List, [], ◌∷◌, Option, None, Some, map, codes, if◌then◌else◌, is_some}
+use Rattle.std.specs.Str.{bytes_eq}
 use Rattle.jx_base.specs.Texts.{number_in}
 use Rattle.jx_options.specs.declared.FormChoice.{FormChoice}
 use Rattle.jx_options.specs.declared.FormChoice.TheVariants as form
@@ -12,7 +13,7 @@ use Rattle.jx_options.specs.Values.{precincts_said, style_said, value_in}
 
 -- in the order of the help
 abbrev pub all_names : List OptionName
-all_names = name.Order ∷ name.Precincts ∷ name.Layers ∷ name.TileParts ∷ name.Sop ∷ name.Eph ∷ name.Plt ∷ name.Form ∷ name.Style ∷ name.Threads ∷ name.Window ∷ name.WindowBytes ∷ []
+all_names = name.Order ∷ name.Precincts ∷ name.Layers ∷ name.TileParts ∷ name.Sop ∷ name.Eph ∷ name.Plt ∷ name.Form ∷ name.Style ∷ name.Reduce ∷ name.Threads ∷ name.Window ∷ name.WindowBytes ∷ []
 
 abbrev pub name_of : OptionName → List ℕ
 name_of name.Order = codes "order"
@@ -24,6 +25,7 @@ name_of name.Eph = codes "eph"
 name_of name.Plt = codes "plt"
 name_of name.Form = codes "form"
 name_of name.Style = codes "style"
+name_of name.Reduce = codes "reduce"
 name_of name.Threads = codes "threads"
 name_of name.Window = codes "window"
 name_of name.WindowBytes = codes "window-bytes"
@@ -39,6 +41,7 @@ default_of name.Eph = codes "false"
 default_of name.Plt = codes "false"
 default_of name.Form = codes "keep"
 default_of name.Style = codes "keep"
+default_of name.Reduce = codes "0"
 default_of name.Threads = codes "1"
 default_of name.Window = codes "64"
 default_of name.WindowBytes = codes "268435456"
@@ -73,6 +76,10 @@ form_said = value_in form_choices
 
 -- ---- those that are numbers
 
+-- resolutions that are left out, 0 among them
+abbrev pub reduce_said : List ℕ → Option ℕ
+reduce_said word = if bytes_eq word (codes "0") then Some 0 else number_in 32 word
+
 abbrev pub threads_said : List ℕ → Option ℕ
 threads_said = number_in 64
 
@@ -99,6 +106,7 @@ is_value name.Layers word = true
 is_value name.TileParts word = is_some (parts_said word)
 is_value name.Form word = is_some (form_said word)
 is_value name.Style word = is_some (style_said word)
+is_value name.Reduce word = is_some (reduce_said word)
 is_value name.Threads word = is_some (threads_said word)
 is_value name.Window word = is_some (window_said word)
 is_value name.WindowBytes word = is_some (bytes_said word)
@@ -113,6 +121,7 @@ no_marks = record { sop = false; eph = false; plt = false; parts = parts.None }
 -- the heading under which it stands
 abbrev pub heading_of : OptionName → List ℕ
 heading_of name.Style = codes "How code-blocks are coded"
+heading_of name.Reduce = codes "How much of the picture is written"
 heading_of name.Threads = codes "How the work is done (the file doesn't depend on it)"
 heading_of name.Window = codes "How the work is done (the file doesn't depend on it)"
 heading_of name.WindowBytes = codes "How the work is done (the file doesn't depend on it)"
@@ -126,6 +135,7 @@ placeholder_of name.Layers = codes "RULE"
 placeholder_of name.TileParts = codes "BY"
 placeholder_of name.Form = codes "FORM"
 placeholder_of name.Style = codes "NAMES"
+placeholder_of name.Reduce = codes "D"
 placeholder_of name.Threads = codes "N"
 placeholder_of name.Window = codes "N"
 placeholder_of name.WindowBytes = codes "N"
@@ -142,12 +152,14 @@ what_of name.Eph = codes "an EPH marker behind each packet header"
 what_of name.Plt = codes "packet lengths in the tile-parts' headers"
 what_of name.Form = codes "keep or j2k: of a JP2 file a JP2 file again, or\nthe codestream alone\ndefault keep; as in --form j2k"
 what_of name.Style = codes "keep, none, or names with + between them:\nbypass, reset, terminate, causal, segment\ndefault keep; as in --style terminate+reset"
+what_of name.Reduce = codes "leave out the D highest resolutions: the picture\nis 2^D times smaller both ways\n0 to 32, default 0; as in --reduce 1"
 what_of name.Threads = codes "workers that code blocks anew\n1 to 64, default 1; as in --threads 4"
 what_of name.Window = codes "blocks that are in work or wait for their turn\n1 to 1024, default 64; as in --window 16"
 what_of name.WindowBytes = codes "bytes of several such blocks together\n1 to 268435456, the default"
 
 -- the least and the greatest of values that are numbers
 abbrev pub range_of : OptionName → List ℕ
+range_of name.Reduce = codes "0 to 32"
 range_of name.Threads = codes "1 to 64"
 range_of name.Window = codes "1 to 1024"
 range_of name.WindowBytes = codes "1 to 268435456"

@@ -15,7 +15,8 @@ mod values;
 mod work;
 
 pub use names::{
-    OptionName, bytes_said, form_said, order_said, parts_said, threads_said, window_said,
+    OptionName, bytes_said, form_said, order_said, parts_said, reduce_said, threads_said,
+    window_said,
 };
 pub use numbers::{long_number_in, number_in};
 pub use options::{Options, OrderChoice, PrecinctChoice};

@@ -3,7 +3,7 @@
 
 ghost use Rattle.std.specs.Prelude.{◌≡◌, IfOk, map, option_map};
 ghost use Rattle.jx_options.specs.Choices.{order_in};
-ghost use Rattle.jx_options.specs.Names.{all_names, bytes_said, default_of, form_of, form_said, heading_of, is_flag, is_value, listed_of, name_of, order_said, parts_said, placeholder_of, range_of, threads_said, what_of, window_said};
+ghost use Rattle.jx_options.specs.Names.{all_names, bytes_said, default_of, form_of, form_said, heading_of, is_flag, is_value, listed_of, name_of, order_said, parts_said, placeholder_of, range_of, reduce_said, threads_said, what_of, window_said};
 
 use crate::numbers::number_in;
 use crate::options::OrderChoice;
@@ -33,6 +33,8 @@ pub enum OptionName {
     Form,
     /// The style of code-blocks (Table A.19).
     Style,
+    /// How many of the highest resolutions are left out (A.5.1, B.5).
+    Reduce,
     /// How many workers recode blocks.
     Threads,
     /// How many blocks may stand between claim and sequence.
@@ -98,6 +100,19 @@ pub fn form_said(word: &str) -> Option<FormChoice>
     None
 }
 
+/// How many of the highest resolutions a word leaves out, 0 to 32.
+pub fn reduce_said(word: &str) -> Option<u8>
+    ensures { result ≡ reduce_said word.now }
+{
+    if word == "0" {
+        return Some(0);
+    }
+    match number_in(32, word) {
+        Some(number) => Some(number as u8),
+        None => None,
+    }
+}
+
 /// The workers that a word asks for, 1 to 64.
 pub fn threads_said(word: &str) -> Option<u32>
     ensures { result ≡ threads_said word.now }
@@ -134,6 +149,7 @@ impl OptionName {
             OptionName::Plt,
             OptionName::Form,
             OptionName::Style,
+            OptionName::Reduce,
             OptionName::Threads,
             OptionName::Window,
             OptionName::WindowBytes,
@@ -154,6 +170,7 @@ impl OptionName {
             OptionName::Plt => "plt",
             OptionName::Form => "form",
             OptionName::Style => "style",
+            OptionName::Reduce => "reduce",
             OptionName::Threads => "threads",
             OptionName::Window => "window",
             OptionName::WindowBytes => "window-bytes",
@@ -172,6 +189,7 @@ impl OptionName {
             | OptionName::Style => "keep",
             OptionName::TileParts => "none",
             OptionName::Sop | OptionName::Eph | OptionName::Plt => "false",
+            OptionName::Reduce => "0",
             OptionName::Threads => "1",
             OptionName::Window => "64",
             OptionName::WindowBytes => "268435456",
@@ -213,6 +231,7 @@ impl OptionName {
             OptionName::Sop | OptionName::Eph | OptionName::Plt => false,
             OptionName::Form => form_said(word).is_some(),
             OptionName::Style => style_said(word).is_some(),
+            OptionName::Reduce => reduce_said(word).is_some(),
             OptionName::Threads => threads_said(word).is_some(),
             OptionName::Window => window_said(word).is_some(),
             OptionName::WindowBytes => bytes_said(word).is_some(),
@@ -226,6 +245,7 @@ impl OptionName {
     {
         match self {
             OptionName::Style => "How code-blocks are coded",
+            OptionName::Reduce => "How much of the picture is written",
             OptionName::Threads | OptionName::Window | OptionName::WindowBytes => {
                 "How the work is done (the file doesn't depend on it)"
             }
@@ -244,6 +264,7 @@ impl OptionName {
             OptionName::TileParts => "BY",
             OptionName::Form => "FORM",
             OptionName::Style => "NAMES",
+            OptionName::Reduce => "D",
             OptionName::Threads | OptionName::Window | OptionName::WindowBytes => "N",
             OptionName::Sop | OptionName::Eph | OptionName::Plt => "",
         }
@@ -275,6 +296,9 @@ impl OptionName {
             OptionName::Style => {
                 "keep, none, or names with + between them:\nbypass, reset, terminate, causal, segment\ndefault keep; as in --style terminate+reset"
             }
+            OptionName::Reduce => {
+                "leave out the D highest resolutions: the picture\nis 2^D times smaller both ways\n0 to 32, default 0; as in --reduce 1"
+            }
             OptionName::Threads => {
                 "workers that code blocks anew\n1 to 64, default 1; as in --threads 4"
             }
@@ -292,6 +316,7 @@ impl OptionName {
         ensures { result.now ≡ range_of self }
     {
         match self {
+            OptionName::Reduce => "0 to 32",
             OptionName::Threads => "1 to 64",
             OptionName::Window => "1 to 1024",
             OptionName::WindowBytes => "1 to 268435456",
