@@ -1,5 +1,5 @@
 -- The front of what was committed, up to the first bad job.
-use Rattle.std.proofs.Common.{◌≡◌, ◌≢◌, ◌∙◌, ◌⊎◌, inl, inr, ℕ, zero, suc, ◌+◌, ◌<◌, ◌≤◌, Bool, true, false, if◌then◌else◌, Some, None, Option, List, [], ◌∷◌, take, drop, map, length, refl, sym, ap, subst, arith, slice_index_or}
+use Rattle.std.proofs.Common.{◌≡◌, ◌≢◌, ◌∙◌, ◌⊎◌, inl, inr, ℕ, zero, suc, ◌+◌, ◌<◌, ◌≤◌, true, false, true≢false, Some, None, Option, List, [], ◌∷◌, take, drop, map, length, refl, sym, ap, subst, arith, slice_index_or}
 use Rattle.std.specs.List.{slice_get}
 use Rattle.std.proofs.Math.Seq.{drop-cons}
 use Rattle.std.proofs.lemmas.Bool.{cases_Bool}
@@ -42,7 +42,9 @@ module _ (entries : List (Taped (Named WrittenBlock))) (i : ℕ) (front : (n : �
       subst (IsRightFront (map (λ (x : Taped (Named WrittenBlock)). x.named) entries)) same (front 0 (subst (λ (l : List (Taped (Named WrittenBlock))). IsRightFront (map (λ (x : Taped (Named WrittenBlock)). x.named) l) 0) (sym none) refl))
 
 pub front_none : (entries : List (Taped (Named WrittenBlock))) (n : ℕ) → IsRightFront (map (λ (t : Taped (Named WrittenBlock)). t.named) entries) n → IsRightFront (map (λ (t : Taped (Named WrittenBlock)). t.named) entries) (0 + n)
-front_none entries n is = is
+front_none entries n is =
+    let same : n ≡ 0 + n = omega arith in
+    subst (IsRightFront (map (λ (t : Taped (Named WrittenBlock)). t.named) entries)) same is
 
 -- ---- against the jobs
 -- a committed name that isn't want of memory is the answer to its job
@@ -77,7 +79,7 @@ front_answers (x ∷ names) (j ∷ jobs) (suc n) each ended (inr bad) =
     let own : j ≡ at.0 = same_Some j at.0 at.1 in
     let is : x ≡ answer_of j = at.2 ∙ ap answer_of (sym own) in
     let wrong = nothing_is_bad j (bad_none x j (recoding_in j) bad.0 is) in
-    rw (bad.1, one_bad j jobs wrong, is) refl
+    ap (λ (k : ℕ). take (suc k) (x ∷ names)) bad.1 ∙ ap (λ (z : Named WrittenBlock). z ∷ []) is ∙ sym (ap (map answer_of) (one_bad j jobs wrong))
 front_answers (x ∷ names) (j ∷ jobs) (suc n) each ended (inl right) =
     let at = each 0 x refl (inl right.0) in
     let own : j ≡ at.0 = same_Some j at.0 at.1 in

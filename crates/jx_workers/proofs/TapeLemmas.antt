@@ -4,7 +4,7 @@ use Rattle.std.specs.List.{All, Any, slice_get}
 use Rattle.std.specs.Option.{option_map}
 use Rattle.std.proofs.lemmas.List.{length-map, length-take-le, take-map}
 use Rattle.std.proofs.lemmas.List.Elements.{All-contains, All-take}
-use Rattle.std.proofs.lemmas.Option.{none-some, same_Some, slice_get_within, get_or_from_slice_get, slice_get-get_or, slice_get-map}
+use Rattle.std.proofs.lemmas.Option.{none-some, same_Some, get_or_from_slice_get, slice_get-get_or, slice_get-map}
 use Rattle.std.proofs.Math.Seq.{take-append_seam}
 use Rattle.jx_base.proofs.Lists.{all_from}
 use Rattle.jx_store.specs.declared.event.Taped.{Taped}
@@ -13,7 +13,7 @@ use Rattle.jx_store.specs.declared.work.Named.TheVariants.{Made, Bad, Short}
 use Rattle.jx_store.specs.Order.{numbers}
 use Rattle.jx_store.specs.Setup.{Within}
 use Rattle.jx_store.specs.Valid.{IsOf}
-use Rattle.jx_store.proofs.NumberLemmas.{length_numbered, length_numbers, number_at, numbers_then}
+use Rattle.jx_store.proofs.NumberLemmas.{length_numbers, number_at, numbers_then}
 use Rattle.jx_codeblock.specs.declared.job.Job.{Job}
 use Rattle.jx_codeblock.specs.Recoded.{WrittenBlock, recoding_in, is_bad}
 use Rattle.jx_codeblock.proofs.AnewLemmas.{bad_is}

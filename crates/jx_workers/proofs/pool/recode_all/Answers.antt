@@ -17,5 +17,6 @@ returns g c =
     let limits : Limits = c.new-limits.result in let same = c.new-limits.ensures in let jobs = c.args.jobs.now in let entries = c.in_ok-entries.entries.items in
     let front = subst (λ (l : List (Taped (Named WrittenBlock))). IsRightFront (map (λ (t : Taped (Named WrittenBlock)). t.named) l) c.in-Some.count) c.as_slice-2.ensures.value c.in-Some.ensures in
     let asked = subst (λ (l : Limits). AreAsked l.first jobs) (sym same) c.requires.jobs in
-    subst (λ (l : Limits). IsTape jobs l.first l.threads l.window l.most (take c.in-Some.count entries)) same
-    (tape_is jobs limits.first limits.threads limits.window limits.most c.in-Some.count entries asked e.order e.each e.ended front)
+    let tape = subst (λ (l : Limits). IsTape jobs l.first l.threads l.window l.most (take c.in-Some.count entries)) same
+    (tape_is jobs limits.first limits.threads limits.window limits.most c.in-Some.count entries asked e.order e.each e.ended front) in
+    subst (λ (l : List (Taped (Named WrittenBlock))). IsTape jobs c.args.first c.args.threads c.args.window c.args.most l) (sym c.truncate.ensures.items) tape

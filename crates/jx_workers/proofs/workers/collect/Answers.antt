@@ -1,4 +1,3 @@
-use Rattle.std.proofs.Common.{ap, ◌∙◌}
 use Rattle.jx_workers.proofs.PassLemmas.{claims_below, ended, entries_below, worker_of}
 use Rattle.jx_workers.proofs.workers.collect.Goals as goal
 
