@@ -314,7 +314,9 @@ fn wrong_in_the_middle(rt: HostRuntime) -> Result<(), Fail> {
             &gate,
         ))?;
         equal(&rt, lines.len(), 5);
-        let made = gate.0[0].load(SeqCst).saturating_add(gate.0[1].load(SeqCst));
+        let made = gate.0[0]
+            .load(SeqCst)
+            .saturating_add(gate.0[1].load(SeqCst));
         check(&rt, if threads == 1 { made == 5 } else { made >= 5 });
         for (place, line) in lines.iter().enumerate() {
             check(

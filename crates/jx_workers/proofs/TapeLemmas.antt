@@ -77,9 +77,9 @@ tape_is jobs first threads window most count entries asked order each ended fron
     let few : count ≤ length entries = omega (arith, front_few (map named entries) count front, length-map entries named) in
     let answers : map named (take count entries) ≡ map answer_of (up_to_bad jobs) = sym (take-map named count entries) ∙ front_answers (map named entries) jobs count
     (λ i x at is.
-        let entry = some_mapped named (slice_get entries i) x (sym (slice_get-map named entries i) ∙ at) in
-        let place = number_at number entries first (length entries) i entry.0 order entry.1 in
-        answered first i entry.0.number jobs place asked x (subst (λ (n : Named WrittenBlock). IsOf (λ (r : WrittenBlock). r.job.number) (λ (r : WrittenBlock). r.job) is_bad first jobs entry.0.number n) (sym entry.2) (each i entry.0 entry.1).3) is)
+    let entry = some_mapped named (slice_get entries i) x (sym (slice_get-map named entries i) ∙ at) in
+    let place = number_at number entries first (length entries) i entry.0 order entry.1 in
+    answered first i entry.0.number jobs place asked x (subst (λ (n : Named WrittenBlock). IsOf (λ (r : WrittenBlock). r.job.number) (λ (r : WrittenBlock). r.job) is_bad first jobs entry.0.number n) (sym entry.2) (each i entry.0 entry.1).3) is)
     (ended_as ended) front in
     let long : count ≡ length (up_to_bad jobs) = sym (length-take-le count entries few) ∙ sym (length-map (take count entries) named) ∙ ap (λ (l : List (Named WrittenBlock)). length l) answers ∙ length-map (up_to_bad jobs) answer_of in
     record {

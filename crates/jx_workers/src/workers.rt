@@ -90,11 +90,7 @@ fn is_stopped<V: Work, N: Bounds<V::Job>>(stops: &AtomicIn<Stops<V, N>>, past: u
 }
 
 // Tells the workers of a job that is bad.
-fn tell<V: Work, N: Bounds<V::Job>>(
-    stops: &AtomicIn<Stops<V, N>>,
-    number: u32,
-    named: &Named<V>,
-)
+fn tell<V: Work, N: Bounds<V::Job>>(stops: &AtomicIn<Stops<V, N>>, number: u32, named: &Named<V>)
     requires from { N.setup.first ≤ number }
     requires of { IsOf V.number V.job V.bad N.setup.first N.jobs number named.now }
 {

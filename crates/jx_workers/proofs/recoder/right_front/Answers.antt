@@ -25,10 +25,10 @@ returns-then-not-is_made c =
     IfSome_then c.with_bad.result c.with_bad.ensures (λ n is.
     let count : c.loop-entry.entry-index + 1 ≡ n = sym (is.0 ∙ ap (λ (k : ℕ). k + 1) c.loop-entry.invariant.counted) in
     subst (IsRightFront (map (λ (t : Taped (Named WrittenBlock)). t.named) c.args.entries.now)) count
-        (front_bad c.args.entries.now c.loop-entry.entry-index c.loop-entry.invariant.front c.entry-item.result there c.entry-item.is is.1))
+    (front_bad c.args.entries.now c.loop-entry.entry-index c.loop-entry.invariant.front c.entry-item.result there c.entry-item.is is.1))
 
 pub returns : goal.returns
 returns c =
     let past : length c.args.entries.now ≤ c.loop-entry.entry-index = search rules in
     subst (IsRightFront (map (λ (t : Taped (Named WrittenBlock)). t.named) c.args.entries.now)) (sym c.loop-entry.invariant.counted)
-        (front_end c.args.entries.now c.loop-entry.entry-index c.loop-entry.invariant.front past)
+    (front_end c.args.entries.now c.loop-entry.entry-index c.loop-entry.invariant.front past)
