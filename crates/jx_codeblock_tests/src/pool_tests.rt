@@ -186,6 +186,17 @@ fn run<R: Threads + Wait + Sync, G: Gate + Sync>(
     )
 }
 
+/// Whether a count comes to so many while it is looked at so often.
+fn comes_to(count: &AtomicU64, least: u64, turns: u64) -> bool {
+    for _ in 0..turns {
+        if count.load(SeqCst) >= least {
+            return true;
+        }
+        thread::yield_now();
+    }
+    false
+}
+
 /// Holds block 0 until block 1 has left, and block 1 until block 0 has entered; where it is narrow, holds
 /// block 0 until block 1 has entered, and nothing else.
 #[derive(Drop)]
@@ -208,13 +219,9 @@ impl Holding {
 
     fn hold(&self, until: &AtomicU64) {
         let turns = if self.narrow { TURNS } else { MANY };
-        for _ in 0..turns {
-            if until.load(SeqCst) != 0 {
-                return;
-            }
-            thread::yield_now();
+        if !comes_to(until, 1, turns) {
+            self.reached.store(1, SeqCst);
         }
-        self.reached.store(1, SeqCst);
     }
 }
 
@@ -291,10 +298,11 @@ fn the_bytes_keep_out(rt: HostRuntime) -> Result<(), Fail> {
     Ok(())
 }
 
-// A wrong symbol in the middle, by one worker and by four: all other blocks are made.
+// A wrong symbol in the middle, by one worker and by four: the tape ends with it, and one worker makes nothing behind it.
 #[test]
 fn wrong_in_the_middle(rt: HostRuntime) -> Result<(), Fail> {
     for threads in [1, 4] {
+        let gate = Noting([AtomicU64::new(0), AtomicU64::new(0)]);
         let (lines, bytes) = given(run(
             &rt,
             rt.alloc(),
@@ -303,9 +311,13 @@ fn wrong_in_the_middle(rt: HostRuntime) -> Result<(), Fail> {
             4,
             false,
             (threads, 3, MOST),
-            &NoGate,
+            &gate,
         ))?;
-        equal(&rt, lines.len(), 9);
+        equal(&rt, lines.len(), 5);
+        let made = gate.0[0]
+            .load(SeqCst)
+            .saturating_add(gate.0[1].load(SeqCst));
+        check(&rt, if threads == 1 { made == 5 } else { made >= 5 });
         for (place, line) in lines.iter().enumerate() {
             check(
                 &rt,
@@ -313,7 +325,69 @@ fn wrong_in_the_middle(rt: HostRuntime) -> Result<(), Fail> {
             );
             equal(&rt, line.made, place != 4);
         }
-        equal(&rt, bytes.as_slice(), [0x03; 8].as_slice());
+        equal(&rt, bytes.as_slice(), [0x03; 4].as_slice());
+    }
+    Ok(())
+}
+
+/// Holds the wrong block until so many others have entered, and each of these until the wrong one has left.
+#[derive(Drop)]
+struct Stopping {
+    wrong: u32,
+    others: u64,
+    entered: AtomicU64,
+    left: AtomicU64,
+    missed: AtomicU64,
+}
+
+impl Stopping {
+    fn new(wrong: u32, others: u64) -> Stopping {
+        Stopping {
+            wrong,
+            others,
+            entered: AtomicU64::new(0),
+            left: AtomicU64::new(0),
+            missed: AtomicU64::new(0),
+        }
+    }
+
+    fn hold(&self, until: &AtomicU64, least: u64) {
+        if !comes_to(until, least, MANY) {
+            self.missed.store(1, SeqCst);
+        }
+    }
+}
+
+impl Gate for Stopping {
+    fn begin(&self, _blocks: u32) {}
+
+    fn enter(&self, block: u32) {
+        if block == self.wrong {
+            self.hold(&self.entered, self.others);
+        } else {
+            self.entered.fetch_add(1, SeqCst);
+            self.hold(&self.left, 1);
+        }
+    }
+
+    fn leave(&self, block: u32) {
+        if block == self.wrong {
+            self.left.fetch_add(1, SeqCst);
+        }
+    }
+}
+
+// All workers are inside a block when one of them is found wrong, whichever: none enters another one, of 900.
+#[test]
+fn a_wrong_block_stops_the_others(rt: HostRuntime) -> Result<(), Fail> {
+    for wrong in 0..4_u32 {
+        let gate = Stopping::new(wrong, 3);
+        let limits = (4, 64, MOST);
+        let (lines, _) = given(run(&rt, rt.alloc(), 900, 0, wrong, false, limits, &gate))?;
+        equal(&rt, gate.missed.load(SeqCst), 0);
+        equal(&rt, gate.entered.load(SeqCst), 3);
+        equal(&rt, gate.left.load(SeqCst), 1);
+        equal(&rt, lines.len(), wrong as usize + 1);
     }
     Ok(())
 }

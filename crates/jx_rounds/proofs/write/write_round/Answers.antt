@@ -29,7 +29,7 @@ pub returns-in-Ok-put_tiles-clause-ends : goal.returns-in-Ok-put_tiles-clause-en
 returns-in-Ok-put_tiles-clause-ends g c = rw c.in-Some.ensures.next.0 c.in-Ok.ensures.ends
 
 pub returns-in-Ok-put_tiles-clause-tape : goal.returns-in-Ok-put_tiles-clause-tape
-returns-in-Ok-put_tiles-clause-tape g c = rw (c.in-Some.ensures.next.1, c.put_entries.ensures, c.mark_after.ensures.kept, c.deref-in-Ok-put_tiles.ensures.value) (c.in-Ok.ensures.tape _ c.requires.tape)
+returns-in-Ok-put_tiles-clause-tape g c = rw (c.in-Some.ensures.next.1, c.put_entries.ensures, c.mark_after.ensures.kept, c.deref-in-Ok-put_tiles.ensures.value) (subst (λ (n : ℕ). HasTape c.args.making.now c.args.crew.now.work n _) (rw (sym c.deref-entries.ensures.value) c.in-Ok-packed_tiles.ensures.whole) (c.in-Ok.ensures.tape _ c.requires.tape))
 
 pub returns-in-Ok-put_tiles-clause-other : goal.returns-in-Ok-put_tiles-clause-other
 returns-in-Ok-put_tiles-clause-other g c = c.put_tiles.ensures.other
