@@ -7,6 +7,7 @@ mod HeaderLemmas
 mod OneLemmas
 mod PlaceLemmas
 mod SampleLemmas
+mod SayingLemmas
 mod SegmentLemmas
 mod SharedLemmas
 mod ShelfLemmas
