@@ -11,5 +11,6 @@ mod SayingLemmas
 mod SegmentLemmas
 mod SharedLemmas
 mod ShelfLemmas
+mod StepLemmas
 mod TileLemmas
 mod WithinLemmas
