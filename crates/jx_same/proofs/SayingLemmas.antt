@@ -3,7 +3,6 @@ use Rattle.std.proofs.Common.{◌≡◌, ◌∙◌, ◌+◌, ◌-◌, ◌*◌, �
 use Rattle.std.specs.List.{filter, find, slice_get}
 use Rattle.std.specs.Option.{option_map, option_or}
 use Rattle.std.proofs.lemmas.Bool.{cases_Bool, eqb-true}
-use Rattle.std.proofs.lemmas.List.{drop_more}
 use Rattle.jx_base.specs.declared.names.Band.{Band}
 use Rattle.jx_marker.specs.declared.Cod.{Cod}
 use Rattle.jx_marker.specs.declared.Quant.{Quant}
@@ -49,7 +48,7 @@ module _ (asked : Option ℕ) (slot : ℕ) (each : AreOf asked slot) where
             ∙ unfiltered true t
         | inr f ↦ elim (cases_Bool (slot_of s == slot)) [
           | inl is ↦ let said : concerns asked s ≡ true = each s (eqb-true (slot_of s) slot is) in absurd (cc)
-          | inr no ↦ ap (λ (b : Bool). option_map saying_of (cond b (Some s) (in_slot slot ss))) no ∙ found ss ∙ unfiltered false f
+          | inr other ↦ ap (λ (b : Bool). option_map saying_of (cond b (Some s) (in_slot slot ss))) other ∙ found ss ∙ unfiltered false f
         ]
       ]
 
@@ -158,27 +157,14 @@ alike_same s t i alike c lt = record {
 }
 
 pub before_same : (s t : Stream) (asked : Option ℕ) (i c : ℕ) → is_about asked c ≡ true → AreAsBefore s t asked i → SameHeaders s t (i - 1) c → SameHeaders s t i c
-before_same s t asked i c about as before =
-    let one = component_same asked c about (header_of s i) (header_of s (i - 1)) s.main s.main as.one refl in
-    let two = component_same asked c about (header_of t i) (header_of t (i - 1)) t.main t.main as.two refl in
+before_same s t asked i c about kept before =
+    let one = component_same asked c about (header_of s i) (header_of s (i - 1)) s.main s.main kept.one refl in
+    let two = component_same asked c about (header_of t i) (header_of t (i - 1)) t.main t.main kept.two refl in
     let levels : (params_of s i c).levels ≡ (params_of s (i - 1) c).levels = ap (λ (x : Component). x.levels) one in
     record {
       component = one ∙ before.component ∙ sym two;
       step = λ r b level has.
-          (step_same asked c about (header_of s i) (header_of s (i - 1)) s.main s.main as.one refl r b
+          (step_same asked c about (header_of s i) (header_of s (i - 1)) s.main s.main kept.one refl r b
           ∙ before.step r b (subst (λ (n : ℕ). r ≤ n) levels level) has
-          ∙ sym (step_same asked c about (header_of t i) (header_of t (i - 1)) t.main t.main as.two refl r b));
+          ∙ sym (step_same asked c about (header_of t i) (header_of t (i - 1)) t.main t.main kept.two refl r b));
     }
-
--- ---- headers segment by segment
--- a segment that says nothing of what is asked about is passed by
-pub passed_by : (asked : Option ℕ) (ss : List Segment) (i : ℕ) (d : Segment) → i < length ss → concerns asked (get_or ss i d) ≡ false → sayings asked (drop i ss) ≡ sayings asked (drop (i + 1) ss)
-passed_by asked ss i d lt no =
-    ap (sayings asked) (drop_more ss i d lt)
-    ∙ ap (λ (b : Bool). map saying_of (cond b (get_or ss i d ∷ filter (concerns asked) (drop (i + 1) ss)) (filter (concerns asked) (drop (i + 1) ss)))) no
-
-pub said_first : (asked : Option ℕ) (ss : List Segment) (i : ℕ) (d : Segment) → i < length ss → concerns asked (get_or ss i d) ≡ true
-    → sayings asked (drop i ss) ≡ saying_of (get_or ss i d) ∷ sayings asked (drop (i + 1) ss)
-said_first asked ss i d lt is =
-    ap (sayings asked) (drop_more ss i d lt)
-    ∙ ap (λ (b : Bool). map saying_of (cond b (get_or ss i d ∷ filter (concerns asked) (drop (i + 1) ss)) (filter (concerns asked) (drop (i + 1) ss)))) is

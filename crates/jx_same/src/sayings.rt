@@ -10,7 +10,7 @@ use jx_codestream::Stream;
 use jx_marker::{Quant, Segment};
 
 /// The numbers of a segment that say how components are transformed, and what slot it has in its header; without those of quantization.
-#[derive(Clone, Copy, Debug)]
+#[derive(Clone, Copy)]
 pub(crate) struct Said {
     pub(crate) slot: usize,
     pub(crate) levels: u8,
