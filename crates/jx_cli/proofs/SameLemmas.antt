@@ -1,6 +1,5 @@
 -- Words of `same`, and what they ask for.
 use Rattle.std.proofs.Common.{◌≡◌, ◌≤◌, ◌∙◌, ap, sym, refl, arith, ℕ, true, false, Bool, List, [], ◌∷◌, ◌++◌, Option, Some, is_some, codes, drop, slice_index_or}
-use Rattle.std.specs.Str.{bytes_eq}
 use Rattle.std.specs.Fmt.{decimal}
 use Rattle.std.proofs.lemmas.Bool.{and_parts}
 use Rattle.clap.specs.Words.{App, fault_of, is_simple_and_free}

@@ -2,7 +2,7 @@
 use Rattle.std.proofs.Common.{◌≡◌, ◌∙◌, ◌+◌, ◌-◌, ◌*◌, ◌/◌, ◌%◌, ◌==◌, ◌<◌, ◌≤◌, ℕ, List, [], ◌∷◌, map, length, get_or, drop, ap, refl, sym, subst, arith, Bool, true, false, cond, inl, inr, Option, None, Some}
 use Rattle.std.specs.List.{filter, find, slice_get}
 use Rattle.std.specs.Option.{option_map, option_or}
-use Rattle.std.proofs.lemmas.Bool.{cases_Bool, eqb-true}
+use Rattle.std.proofs.lemmas.Bool.{cases_Bool, eq-eqb, eqb-true}
 use Rattle.jx_base.specs.declared.names.Band.{Band}
 use Rattle.jx_marker.specs.declared.Cod.{Cod}
 use Rattle.jx_marker.specs.declared.Quant.{Quant}
@@ -168,3 +168,15 @@ before_same s t asked i c about kept before =
           ∙ before.step r b (subst (λ (n : ℕ). r ≤ n) levels level) has
           ∙ sym (step_same asked c about (header_of t i) (header_of t (i - 1)) t.main t.main kept.two refl r b));
     }
+
+pub before_all : (s t : Stream) (i : ℕ) → AreAsBefore s t None i → (0 < i → AreSameHeaders s t (i - 1)) → AreSameHeaders s t i
+before_all s t i kept before c lt = before_same s t None i c refl kept (before kept.there c lt)
+
+-- of one component, which is the one that is asked about
+pub before_one : (s s' t t' : Stream) (i i' c : ℕ) → s ≡ s' → t ≡ t' → i ≡ i' → AreAsBefore s t (Some c) i → (0 < i' → AreSameHeaders s' t' (i' - 1)) → c < length s'.siz.comps
+    → SameHeaders s' t' i' c
+before_one s s' t t' i i' c one two tile kept before lt =
+    let of_one : AreAsBefore s' t (Some c) i = subst (λ (x : Stream). AreAsBefore x t (Some c) i) one kept in
+    let of_two : AreAsBefore s' t' (Some c) i = subst (λ (x : Stream). AreAsBefore s' x (Some c) i) two of_one in
+    let own : AreAsBefore s' t' (Some c) i' = subst (λ (n : ℕ). AreAsBefore s' t' (Some c) n) tile of_two in
+    before_same s' t' (Some c) i' c (eq-eqb c c refl) own (before own.there c lt)

@@ -27,21 +27,21 @@ new-requires-in-loop-tile-clause-tile g c =
     let below : c.loop-tile.tile < tile_number c.args.a.stream.now.siz = omega (arith, c.loop-tile-test.true, c.tile_count-tile-end.ensures) in
     subst (λ (n : ℕ). c.loop-tile.tile < n) tiles below
 
-pub is_known-requires-clause-shared : goal.is_known-requires-clause-shared
-is_known-requires-clause-shared g c = λ is.
+pub is_known-same-requires-clause-shared : goal.is_known-same-requires-clause-shared
+is_known-same-requires-clause-shared g c = λ is.
     (let parts = and_parts c.loop-tile.known c.are_bare-bare.result (sym c.both.ensures ∙ is) in
     headers_from c.args.a.stream.now c.args.b.stream.now c.loop-tile.tile (c.are_bare-bare.ensures parts.1) (c.loop-tile.invariant.known parts.0))
 
-pub is_known-requires-clause-before : goal.is_known-requires-clause-before
-is_known-requires-clause-before g c = λ lt. headers_before c.args.a c.args.b c.loop-tile.tile lt c.loop-tile.invariant.none
+pub is_known-same-requires-clause-before : goal.is_known-same-requires-clause-before
+is_known-same-requires-clause-before g c = λ lt. headers_before c.args.a c.args.b c.loop-tile.tile lt c.loop-tile.invariant.none
 
 pub compare_tile-requires-clause-known : goal.compare_tile-requires-clause-known
-compare_tile-requires-clause-known g c = λ is.
+compare_tile-requires-clause-known g c κs held = λ is.
     headers_beside AreSameHeaders c.args.a c.args.b c.in_ok-side_a.side_a c.in_ok-side_b.side_b c.loop-tile.tile c.in_ok-side_a.ensures c.in_ok-side_b.ensures
     (c.is_known-same.ensures is)
 
 pub compare_tile-requires-clause-before : goal.compare_tile-requires-clause-before
-compare_tile-requires-clause-before g c =
+compare_tile-requires-clause-before g c κs held =
     headers_beside (λ (s t : Stream) (n : ℕ). 0 < n → AreSameHeaders s t (n - 1)) c.args.a c.args.b c.in_ok-side_a.side_a c.in_ok-side_b.side_b c.loop-tile.tile
     c.in_ok-side_a.ensures c.in_ok-side_b.ensures (λ lt. headers_before c.args.a c.args.b c.loop-tile.tile lt c.loop-tile.invariant.none)
 
