@@ -115,7 +115,7 @@ flat_ends p f (x ∷ xs) (suc n) le none =
     (flat_ends p f xs n (omega arith) (none_right p (f x) (flat_map f (take n xs)) none))
 
 -- ---- of items that are made of others
-map_one : {X Y : Type 0} (f : X → Y) (b : Bool) (x : X) (m : Option X) (n : Option Y) → n ≡ option_map f m → cond b (Some (f x)) n ≡ option_map f (cond b (Some x) m)
+pub map_one : {X Y : Type 0} (f : X → Y) (b : Bool) (x : X) (m : Option X) (n : Option Y) → n ≡ option_map f m → cond b (Some (f x)) n ≡ option_map f (cond b (Some x) m)
 map_one f true x m n e = refl
 map_one f false x m n e = e
 

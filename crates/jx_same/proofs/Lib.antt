@@ -7,8 +7,10 @@ mod HeaderLemmas
 mod OneLemmas
 mod PlaceLemmas
 mod SampleLemmas
+mod SayingLemmas
 mod SegmentLemmas
 mod SharedLemmas
 mod ShelfLemmas
+mod StepLemmas
 mod TileLemmas
 mod WithinLemmas

@@ -5,3 +5,4 @@ pub mod Sides
 pub mod Lists
 pub mod Shared
 pub mod Runs
+pub mod Sayings

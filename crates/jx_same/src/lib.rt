@@ -8,6 +8,7 @@ mod decoded;
 mod headers;
 mod input;
 mod runs;
+mod sayings;
 mod segments;
 mod shelf;
 mod side;

@@ -3,6 +3,8 @@ mod ReadLemmas
 mod SaidLemmas
 mod JudgeLemmas
 mod SameLemmas
+mod SameVerdictLemmas
+mod SomeSameLemmas
 mod KeptSameLemmas
 mod FiledLemmas
 mod TapeLemmas

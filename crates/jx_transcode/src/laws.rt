@@ -103,6 +103,24 @@ pub fn boxes_have_one_verdict()
     some_tree();
 }
 
+/// Two files have a verdict under `same`, and one alone.
+pub fn same_has_one_verdict()
+    ensures one { (first second : List ℕ) (s t : Status) → SameVerdict first second s → SameVerdict first second t → s ≡ t }
+    ensures some { (first second : List ℕ) → AreBytes first → AreBytes second → (s : Status) × SameVerdict first second s }
+{
+    one_stream();
+    one_first();
+    violated_or_spelled();
+    one_violation();
+    one_gathering();
+    never_both();
+    one_answer();
+    one_output();
+    one_codestream();
+    one_file_verdict();
+    some_file_verdict();
+}
+
 /// What `transcode` wrote of an input is the same as the input under `same`, where it is within the limits, as a codestream or as a JP2 file:
 /// `inner` is the input's codestream, `again` that of the file that was written.
 pub fn kept_is_same()

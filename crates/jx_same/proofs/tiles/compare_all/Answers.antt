@@ -1,13 +1,14 @@
-use Rattle.std.proofs.Common.{◌≡◌, ◌∙◌, ◌<◌, ℕ, ap, refl, subst, sym, arith}
+use Rattle.std.proofs.Common.{◌≡◌, ◌∙◌, ◌-◌, ◌<◌, ℕ, ap, refl, subst, sym, arith}
 use Rattle.std.proofs.lemmas.Bool.{and_parts}
 use Rattle.jx_marker.specs.declared.Siz.{Siz}
+use Rattle.jx_codestream.specs.declared.Stream.{Stream}
 use Rattle.jx_codestream.specs.First.{tile_number}
 use Rattle.jx_same.specs.Items.{differs, tile_items}
-use Rattle.jx_same.specs.Shared.{AreSameMain}
+use Rattle.jx_same.specs.Shared.{AreSameHeaders, AreSameMain}
 use Rattle.jx_same.specs.Sides.{meaning_in}
 use Rattle.jx_same.proofs.FindLemmas.{joined_begins, joined_goes, joined_stops, nothing}
 use Rattle.jx_same.proofs.HeaderLemmas.{siz_back}
-use Rattle.jx_same.proofs.SharedLemmas.{headers_beside, headers_from, headers_none, known_after, main_from}
+use Rattle.jx_same.proofs.SharedLemmas.{headers_before, headers_beside, headers_from, headers_none, known_after, main_from}
 use Rattle.jx_same.proofs.TileLemmas.{behind_of, tile_found}
 use Rattle.jx_same.proofs.tiles.compare_all.Goals as goal
 
@@ -26,14 +27,23 @@ new-requires-in-loop-tile-clause-tile g c =
     let below : c.loop-tile.tile < tile_number c.args.a.stream.now.siz = omega (arith, c.loop-tile-test.true, c.tile_count-tile-end.ensures) in
     subst (λ (n : ℕ). c.loop-tile.tile < n) tiles below
 
+pub is_known-same-requires-clause-shared : goal.is_known-same-requires-clause-shared
+is_known-same-requires-clause-shared g c = λ is.
+    (let parts = and_parts c.loop-tile.known c.are_bare-bare.result (sym c.both.ensures ∙ is) in
+    headers_from c.args.a.stream.now c.args.b.stream.now c.loop-tile.tile (c.are_bare-bare.ensures parts.1) (c.loop-tile.invariant.known parts.0))
+
+pub is_known-same-requires-clause-before : goal.is_known-same-requires-clause-before
+is_known-same-requires-clause-before g c = λ lt. headers_before c.args.a c.args.b c.loop-tile.tile lt c.loop-tile.invariant.none
+
 pub compare_tile-requires-clause-known : goal.compare_tile-requires-clause-known
 compare_tile-requires-clause-known g c κs held = λ is.
-    (let a = c.args.a in
-    let b = c.args.b in
-    let t = c.loop-tile.tile in
-    let parts = and_parts c.loop-tile.known c.are_bare-bare.result (sym c.both.ensures ∙ is) in
-    headers_beside a b c.in_ok-side_a.side_a c.in_ok-side_b.side_b t c.in_ok-side_a.ensures c.in_ok-side_b.ensures
-    (headers_from a.stream.now b.stream.now t (c.are_bare-bare.ensures parts.1) (c.loop-tile.invariant.known parts.0)))
+    headers_beside AreSameHeaders c.args.a c.args.b c.in_ok-side_a.side_a c.in_ok-side_b.side_b c.loop-tile.tile c.in_ok-side_a.ensures c.in_ok-side_b.ensures
+    (c.is_known-same.ensures is)
+
+pub compare_tile-requires-clause-before : goal.compare_tile-requires-clause-before
+compare_tile-requires-clause-before g c κs held =
+    headers_beside (λ (s t : Stream) (n : ℕ). 0 < n → AreSameHeaders s t (n - 1)) c.args.a c.args.b c.in_ok-side_a.side_a c.in_ok-side_b.side_b c.loop-tile.tile
+    c.in_ok-side_a.ensures c.in_ok-side_b.ensures (λ lt. headers_before c.args.a c.args.b c.loop-tile.tile lt c.loop-tile.invariant.none)
 
 pub returns-in-Some : goal.returns-in-Some
 returns-in-Some g c =
