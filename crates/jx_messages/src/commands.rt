@@ -101,7 +101,7 @@ Usage: jx transcode IN OUT [OPTIONS]
        jx make SEED WIDTH HEIGHT
        jx boxes IN
        jx same A B [--threads N]
-       jx show IN
+       jx show IN [--json]
 
 jx --help says what they do, jx transcode --help all options.";
 
