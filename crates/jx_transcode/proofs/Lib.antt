@@ -4,10 +4,12 @@ mod SaidLemmas
 mod JudgeLemmas
 mod SameLemmas
 mod KeptSameLemmas
+mod SamplingLemmas
 mod FiledLemmas
 mod TapeLemmas
 mod AnswerLemmas
 mod RefusedLemmas
+mod ReducedLemmas
 mod LeftLemmas
 mod Jp2Lemmas
 mod AroundLemmas
