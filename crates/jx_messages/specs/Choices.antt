@@ -52,6 +52,16 @@ abbrev pub long_words : ℕ → Text
 long_words place =
     codes "jx: a tile-part of tile " ++ (decimal place ++ codes " would have 4 GiB or more:\n    cut the tile by --tile-parts r, l or c (T.800 A.4.2; choice 7)\n")
 
+-- a subsampling factor that would be too large
+abbrev pub factor_words : ℕ → Text → Text
+factor_words place value =
+    codes "jx: --reduce " ++ (value ++ (codes " would give component " ++ (decimal place ++ codes "\n    a subsampling factor over 255: use a smaller number\n    (T.800 A.5.1, Table A.9; choice 8)\n")))
+
+-- more resolutions than some header has above the lowest
+abbrev pub levels_words : Text → Text → Text
+levels_words header value =
+    codes "jx: --reduce " ++ (value ++ (codes " would leave out more resolutions than " ++ (header ++ codes "\n    has above the lowest: use a smaller number\n    (T.800 A.6.1, Table A.15; choice 9)\n")))
+
 -- the sentence of each choice
 unfoldable pub choice_words : ℕ → ℕ → Text → Text
 choice_words number place value =
@@ -60,7 +70,9 @@ choice_words number place value =
     if number == 3 then zero_words (header_words place) value else
     if number == 4 then crowded_words place value else
     if number == 5 then cut_words place value else
-    if number == 6 then no_rule_words value else long_words place
+    if number == 6 then no_rule_words value else
+    if number == 7 then long_words place else
+    if number == 8 then factor_words place value else levels_words (header_words place) value
 
 -- the option that each choice is about
 unfoldable pub option_words : ℕ → Text
@@ -69,4 +81,6 @@ option_words number =
     if number == 2 then codes "--precincts" else
     if number == 3 then codes "--precincts" else
     if number == 4 then codes "--layers" else
-    if number == 6 then codes "--layers" else codes "--tile-parts"
+    if number == 5 then codes "--tile-parts" else
+    if number == 6 then codes "--layers" else
+    if number == 7 then codes "--tile-parts" else codes "--reduce"

@@ -1,6 +1,6 @@
 //! The choices in words, with what to ask instead.
 ghost use Rattle.std.specs.Prelude.{◌≡◌, IfOk, string_bytes};
-ghost use Rattle.jx_messages.specs.Choices.{causal_words, choice_words, crowded_words, cut_words, header_words, long_words, misfit_words, no_rule_words, option_words, own_words, size_words, zero_words};
+ghost use Rattle.jx_messages.specs.Choices.{causal_words, choice_words, crowded_words, cut_words, factor_words, header_words, levels_words, long_words, misfit_words, no_rule_words, option_words, own_words, size_words, zero_words};
 
 use std::alloc::{AllocError, Global};
 
@@ -121,6 +121,32 @@ fn long(alloc: Global, place: u32) -> Result<String, AllocError>
     )
 }
 
+/// A subsampling factor that would be too large.
+fn factor(alloc: Global, place: u32, count: &str) -> Result<String, AllocError>
+    ensures { IfOk result (λ text. string_bytes text ≡ factor_words place count.now) }
+{
+    format!(in alloc;
+        "jx: --reduce {count} would give component {place}\n    a subsampling factor over 255: use a smaller number\n    (T.800 A.5.1, Table A.9; choice 8)\n"
+    )
+}
+
+/// More resolutions than some header has above the lowest.
+fn levels_in(alloc: Global, at: &str, count: &str) -> Result<String, AllocError>
+    ensures { IfOk result (λ text. string_bytes text ≡ levels_words at.now count.now) }
+{
+    format!(in alloc;
+        "jx: --reduce {count} would leave out more resolutions than {at}\n    has above the lowest: use a smaller number\n    (T.800 A.6.1, Table A.15; choice 9)\n"
+    )
+}
+
+/// More resolutions than there are above the lowest.
+fn levels(alloc: Global, place: u32, count: &str) -> Result<String, AllocError>
+    ensures { IfOk result (λ text. string_bytes text ≡ levels_words (header_words place) count.now) }
+{
+    let at = header(alloc, place)?;
+    levels_in(alloc, at.as_str(), count)
+}
+
 /// The option that a choice is about.
 #[tactic(auto, unfolding(crate::specs::Choices::option_words))]
 pub(crate) fn option_of(number: u8) -> &'static str
@@ -131,12 +157,14 @@ pub(crate) fn option_of(number: u8) -> &'static str
         2 => "--precincts",
         3 => "--precincts",
         4 => "--layers",
+        5 => "--tile-parts",
         6 => "--layers",
-        _ => "--tile-parts",
+        7 => "--tile-parts",
+        _ => "--reduce",
     }
 }
 
-/// A choice in words, 1 to 7, with the value of the option that it is about.
+/// A choice in words, 1 to 9, with the value of the option that it is about.
 #[tactic(auto, unfolding(crate::specs::Choices::choice_words))]
 pub(crate) fn choice_text(
     alloc: Global,
@@ -153,6 +181,8 @@ pub(crate) fn choice_text(
         4 => crowded(alloc, place, value),
         5 => cut(alloc, place, value),
         6 => no_rule(alloc, value),
-        _ => long(alloc, place),
+        7 => long(alloc, place),
+        8 => factor(alloc, place, value),
+        _ => levels(alloc, place, value),
     }
 }

@@ -43,7 +43,7 @@ pub enum Refusal {
     },
     /// The input can't have what is asked.
     Choice {
-        /// The choice, 1 to 7.
+        /// The choice, 1 to 9.
         number: u8,
         /// The code-block or the tile.
         place: u32,

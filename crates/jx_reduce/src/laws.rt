@@ -9,8 +9,10 @@ ghost use Rattle.jx_codestream.specs.declared.Stream.{Stream};
 ghost use Rattle.jx_codestream.specs.Params.{planes_at, step_of};
 ghost use Rattle.jx_codestream.specs.Shapes.{geometry, layers_of, style_of};
 ghost use Rattle.jx_tile.specs.Covered.{IsWhole};
+ghost use Rattle.jx_plan.specs.Meaning.{meaning_of};
 ghost use Rattle.jx_plan.specs.Plan.{MayBePlanned};
 ghost use Rattle.jx_plan.specs.Standing.{HeadersStand};
+ghost use Rattle.jx_reduce.specs.Left.{IsLeft};
 ghost use Rattle.jx_reduce.specs.Reduction.{blocks_left, stream_left};
 ghost use Rattle.jx_reduce.specs.Unreducible.{first_choice};
 
@@ -51,6 +53,13 @@ pub fn parameters_stay()
 /// The packets that are left are covered where all were, also where an entry begins above the resolutions that are left (T.800, A.6.6).
 pub fn packets_stay_covered()
     ensures { (d : ℕ) (s : Stream) (t : ℕ) → HeadersStand s → first_choice d s ≡ None → t < length s.tiles → IsWhole s t → IsWhole (stream_left d s) t }
+{}
+
+/// What is left of a codestream may be planned again, and means what is left of its meaning.
+pub fn left_means()
+    ensures may { (d : ℕ) (s : Stream) (blocks : List Block) → MayBePlanned s blocks → first_choice d s ≡ None → MayBePlanned (stream_left d s) (blocks_left d s blocks) }
+    ensures meaning { (d : ℕ) (s : Stream) (blocks : List Block) → HeadersStand s → first_choice d s ≡ None
+        → IsLeft d (meaning_of s blocks) (meaning_of (stream_left d s) (blocks_left d s blocks)) }
 {}
 
 /// Where no resolution is left out a codestream stays as it is, and nothing is in the way.

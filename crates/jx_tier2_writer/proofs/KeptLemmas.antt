@@ -18,16 +18,12 @@ use Rattle.jx_codestream.specs.declared.headers.HeaderKind.TheVariants.{First}
 use Rattle.jx_codestream.specs.declared.Stream.{Stream}
 use Rattle.jx_codestream.specs.First.{tile_number}
 use Rattle.jx_codestream.specs.Params.{cod_of, cod_or, header_of, params_of, planes_at, step_of}
-use Rattle.jx_codestream.specs.Read.{IsRead}
 use Rattle.jx_codestream.specs.Shapes.{geometry, shapes_of, tile_at}
 use Rattle.jx_codestream.specs.Spells.{AreSegments}
 use Rattle.jx_codestream.specs.Tiles.{entry_in, in_slot, or_list}
 use Rattle.jx_codestream.specs.Tiles.{entries_joined}
 use Rattle.jx_tier2_reader.specs.BlockOf.{AreBlocksOf}
-use Rattle.jx_tier2_reader.specs.Gathered.{IsGathered}
 use Rattle.jx_tile.specs.Totals.{packet_total, totals_fault}
-use Rattle.jx_tier2_reader.proofs.BlockOfLemmas.{blocks_of_stream}
-use Rattle.jx_tier2_reader.proofs.SoundLemmas.{sound_gathered}
 use Rattle.jx_codeblock.specs.declared.LayerEnd.{LayerEnd}
 use Rattle.jx_codeblock.specs.FirstLayers.{HasFirstLayers}
 use Rattle.jx_codeblock.specs.Jobs.{IsAsked}
@@ -41,7 +37,7 @@ use Rattle.jx_plan.specs.Fits.{Fits, first_zero}
 use Rattle.jx_plan.specs.Headers.{HeaderOptions, MayBeInHeaders, cod_written, comp_written, params_written, stream_written, with_layers}
 use Rattle.jx_plan.specs.Causes.{IsFree}
 use Rattle.jx_plan.specs.Meaning.{Component, Meaning, Place, component_of, meaning_of, sample_at}
-use Rattle.jx_plan.specs.Plan.{headers_with}
+use Rattle.jx_plan.specs.Plan.{MayBePlanned, headers_with}
 use Rattle.jx_plan.specs.Planned.{IsCrowded, IsFreeBy, MakesLayers, blocks_written, layers_of_rule}
 use Rattle.jx_plan.specs.Standing.{HeadersStand}
 use Rattle.jx_options.specs.Wanted.{MayBeWanted, Wanted}
@@ -75,7 +71,6 @@ pub record HeaderLaws : Type 0 where
 
 -- and of what they keep
 pub record KeepLaws : Type 0 where
-  pub read : (b : List ℕ) (s : Stream) → IsRead b s → HeadersStand s
   pub params : (a : HeaderOptions) (s : Stream) (t c : ℕ) → HeadersStand s → params_of (stream_written a s) t c ≡ params_written a (params_of s t c)
   pub steps : (a : HeaderOptions) (s : Stream) (t c r : ℕ) (band : Band) → HeadersStand s → step_of (stream_written a s) t c r band ≡ step_of s t c r band
   pub planes : (a : HeaderOptions) (s : Stream) (t c r : ℕ) (band : Band) → HeadersStand s → planes_at (stream_written a s) t c r band ≡ planes_at s t c r band
@@ -181,9 +176,8 @@ module _ (laws : HeaderLaws) (w : Wanted) (layers : ℕ) (s : Stream) (some : 1 
 all_at : (P : Block → Type 0) (blocks : List Block) (k : ℕ) (b : Block) → All P blocks → slice_get blocks k ≡ Some b → P b
 all_at P blocks k b each is = subst P (get_or_from_slice_get blocks k b b is) (each k b (slice_get_within blocks k b is))
 
-module _ (laws : HeaderLaws) (keep : KeepLaws) (told : LayerLaws) (w : Wanted) (rule : Rule) (before : Stream) (blocks : List Block) (input out : List ℕ)
-    (is : IsOutput w.marks (headers_with w (layers_of_rule rule before blocks) before) (blocks_written w rule before blocks) out) (read : IsRead input before)
-    (small : length input ≤ 2 ^ 28) (none : totals_fault before ≡ None) (gathered : IsGathered input before blocks) (makes : MakesLayers (Some rule) before blocks)
+module _ (laws : HeaderLaws) (keep : KeepLaws) (told : LayerLaws) (w : Wanted) (rule : Rule) (before : Stream) (blocks : List Block) (out : List ℕ)
+    (is : IsOutput w.marks (headers_with w (layers_of_rule rule before blocks) before) (blocks_written w rule before blocks) out) (plan : MayBePlanned before blocks) (makes : MakesLayers (Some rule) before blocks)
     (may : MayBeWanted w) (free : IsFreeBy rule before blocks w) (right : All (λ (b : Block). is_wrong w.style b ≡ false) blocks)
     (short : AllShort is.parts (tile_number before.siz)) where
   abbrev layers : ℕ
@@ -205,20 +199,20 @@ module _ (laws : HeaderLaws) (keep : KeepLaws) (told : LayerLaws) (w : Wanted) (
   anew = blocks_written w rule before blocks
 
   stand : HeadersStand before
-  stand = keep.read input before read
+  stand = plan.headers
 
   ready : AreReady marks written
-  ready = written_ready laws w layers before makes.0 makes.1 may stand none free.free
+  ready = written_ready laws w layers before makes.0 makes.1 may stand plan.totals free.free
 
   all_short : AllShort is.parts (tile_number written.siz)
   all_short = subst (λ (n : ℕ). AllShort is.parts n) (sym (laws.tiles b before)) short
 
   sound_read : All IsSound blocks
-  sound_read = sound_gathered input before blocks read small none gathered
+  sound_read = plan.sound
 
   named : AreBlocksOf written anew
   named =
-      keep.blocks w rule before blocks makes.0 free.free.fits stand (blocks_of_stream input before blocks read small none gathered) sound_read free.whole right free.uncrowded
+      keep.blocks w rule before blocks makes.0 free.free.fits stand plan.blocks_are sound_read free.whole right free.uncrowded
 
   sound : All IsSound anew
   sound = keep.sound w rule before blocks makes.0 sound_read free.whole

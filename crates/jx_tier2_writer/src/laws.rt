@@ -31,7 +31,7 @@ ghost use Rattle.jx_options.specs.declared.Marks.{Marks};
 ghost use Rattle.jx_layers.specs.Rule.{Rule};
 ghost use Rattle.jx_plan.specs.Causes.{IsFree};
 ghost use Rattle.jx_codeblock.specs.Written.{is_wrong};
-ghost use Rattle.jx_plan.specs.Plan.{headers_with};
+ghost use Rattle.jx_plan.specs.Plan.{MayBePlanned, headers_with};
 ghost use Rattle.jx_plan.specs.Planned.{IsFreeBy, MakesLayers, blocks_written, layers_of_rule};
 ghost use Rattle.jx_options.specs.Wanted.{MayBeWanted, Wanted};
 ghost use Rattle.jx_plan.specs.Standing.{HeadersStand};
@@ -40,8 +40,8 @@ ghost use Rattle.jx_tier2_writer.specs.TileParts.{AreTilePartsOf, IsOutput};
 use jx_codeblock::laws::first_layers_are_final;
 use jx_layers::laws::{breaks_are_told, jobs_have_these_ends};
 use jx_plan::laws::{
-    meaning_stays, parameters_stay, read_headers_stand, written_blocks_stand,
-    written_headers_are_plain, written_headers_stand,
+    meaning_stays, parameters_stay, written_blocks_stand, written_headers_are_plain,
+    written_headers_stand,
 };
 
 /// A written file spells the stream of the headers that it was written from, with its tile-parts' own headers, places and data: no
@@ -131,18 +131,17 @@ pub fn written_is_ready()
     parameters_stay();
 }
 
-/// A file that was read, written anew in the layers of a rule that makes 1 to 65,535, where nothing is in the way and each code-block
+/// A stream and code-blocks that may be planned, written in the layers of a rule that makes 1 to 65,535, where nothing is in the way and each code-block
 /// that is coded anew is right, is read as a stream that has its code-blocks as they are written, SIZ but for Rsiz, the parameters but for
 /// the order, the layers, the precincts and the style, the steps and the places, and that means what it meant; the first layers of each
 /// code-block hold the passes that the rule puts there, with their final values.
 pub fn rewritten_is_read()
-    ensures { (w : Wanted) (rule : Rule) (before : Stream) (blocks : List Block) (input out : List ℕ)
+    ensures { (w : Wanted) (rule : Rule) (before : Stream) (blocks : List Block) (out : List ℕ)
         (is : IsOutput w.marks (headers_with w (layers_of_rule rule before blocks) before) (blocks_written w rule before blocks) out)
-        → IsRead input before → length input ≤ 2 ^ 28 → totals_fault before ≡ None → IsGathered input before blocks → MakesLayers (Some rule) before blocks
+        → MayBePlanned before blocks → MakesLayers (Some rule) before blocks
         → MayBeWanted w → IsFreeBy rule before blocks w → All (λ (b : Block). is_wrong w.style b ≡ false) blocks → AllShort is.parts (tile_number before.siz)
         → (after : Stream) × IsKeptIn w rule before after blocks out }
 {
-    read_headers_stand();
     written_headers_stand();
     written_headers_are_plain();
     parameters_stay();

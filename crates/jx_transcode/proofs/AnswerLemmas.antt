@@ -13,12 +13,16 @@ use Rattle.jx_codestream.specs.declared.Stream.{Stream}
 use Rattle.jx_codestream.specs.First.{tile_number}
 use Rattle.jx_codestream.specs.Read.{IsRead}
 use Rattle.jx_codestream.specs.Spells.{TilePart, all_bytes, part_bytes}
-use Rattle.jx_tier2_reader.specs.Gathered.{IsGathered}
-use Rattle.jx_tile.specs.Totals.{block_total, totals_fault}
+use Rattle.jx_tile.specs.Totals.{block_total}
 use Rattle.jx_layers.specs.Rule.{Rule}
 use Rattle.jx_options.specs.declared.Marks.{Marks}
-use Rattle.jx_plan.specs.Plan.{IsPlan, Plan, headers_with}
+use Rattle.jx_plan.specs.Meaning.{meaning_of}
+use Rattle.jx_plan.specs.Plan.{IsPlan, MayBePlanned, Plan, headers_with}
 use Rattle.jx_plan.specs.Planned.{IsFreeBy, IsPlanned, IsPlannedBy, MakesLayers, blocks_written, layers_of_rule}
+use Rattle.jx_plan.specs.Standing.{HeadersStand}
+use Rattle.jx_reduce.specs.Left.{IsLeft}
+use Rattle.jx_reduce.specs.Reduction.{blocks_left, stream_left}
+use Rattle.jx_reduce.specs.Unreducible.{first_choice}
 use Rattle.jx_options.specs.Wanted.{MayBeWanted, Wanted}
 use Rattle.jx_tier2_writer.specs.Kept.{IsKeptIn}
 use Rattle.jx_tier2_writer.specs.Ready.{AllShort, AreShort}
@@ -27,7 +31,7 @@ use Rattle.jx_tier2_writer.specs.TileParts.{AreTilePartsOf, IsOutput}
 use Rattle.jx_transcode.specs.Aims.{Aim, rule_in}
 use Rattle.jx_transcode.specs.Filed.{IsAnswered, IsFileBegun, IsFileHalted, IsFileMade, IsFileStopped, IsEndOf, status_of}
 use Rattle.jx_transcode.specs.Outcome.{IsCutShort, IsStopped, IsUnfinished, IsVerdict, Leaves, most_bytes}
-use Rattle.jx_transcode.specs.Rewritten.{CanBePlanned, HasBlocks, IsBad, IsCut, IsCutByBlock, IsFront, IsFrontOf, IsKept, IsLong, IsRewritten, IsSpoiled, Reads, headers_of}
+use Rattle.jx_transcode.specs.Rewritten.{CanBePlanned, HasBlocks, IsBad, IsCut, IsCutByBlock, IsFront, IsFrontOf, IsKept, IsLong, IsRewritten, IsSpoiled, ReadsLeft, headers_of}
 use Rattle.jx_rounds.specs.Tiles.{IsRight, Round, round_of}
 use Rattle.jx_transcode.specs.Rewritten.{IsTooLongAt}
 use Rattle.jx_rounds.specs.Rounds.{EndWithRound, IsHaltedAt, IsRoundFront, IsShortFront, IsTapedTo, IsWholeFile, most_of_part}
@@ -84,15 +88,17 @@ joined_file a b c d e =
 pub record Laws : Type 0 where
   pub blocks : (s : Stream) (blocks : List Block) (w : Wanted) (r : Rule) (p : Plan) → IsPlan p → IsPlannedBy r s blocks w p → map block_asked p.jobs ≡ blocks_written w r s blocks
   pub free : (s : Stream) (blocks : List Block) (w : Wanted) (r : Rule) (p : Plan) → IsPlan p → IsPlannedBy r s blocks w p → IsFreeBy r s blocks w
-  pub keeps : (w : Wanted) (rule : Rule) (before : Stream) (blocks : List Block) (input out : List ℕ)
+  pub keeps : (w : Wanted) (rule : Rule) (before : Stream) (blocks : List Block) (out : List ℕ)
       (is : IsOutput w.marks (headers_with w (layers_of_rule rule before blocks) before) (blocks_written w rule before blocks) out)
-      → IsRead input before → length input ≤ 2 ^ 28 → totals_fault before ≡ None → IsGathered input before blocks → MakesLayers (Some rule) before blocks
+      → MayBePlanned before blocks → MakesLayers (Some rule) before blocks
       → MayBeWanted w → IsFreeBy rule before blocks w → All (λ (b : Block). is_wrong w.style b ≡ false) blocks → AllShort is.parts (tile_number before.siz)
       → (after : Stream) × IsKeptIn w rule before after blocks out
+  pub stand : (b : List ℕ) (s : Stream) → IsRead b s → HeadersStand s
+  pub left : (d : ℕ) (s : Stream) (blocks : List Block) → HeadersStand s → first_choice d s ≡ None → IsLeft d (meaning_of s blocks) (meaning_of (stream_left d s) (blocks_left d s blocks))
   pub parts : (m : Marks) (s : Stream) (blocks : List Block) (t : ℕ) (xs ys : List TilePart) → AreTilePartsOf m s blocks t xs → AreTilePartsOf m s blocks t ys → xs ≡ ys
 
 -- ---- what stands of the file of an input that was planned
-module _ (laws : Laws) (aim : Aim) (input : List ℕ) (s : Stream) (blocks : List Block) (jobs : List Job) (reads : Reads input s blocks) (within : length input ≤ most_bytes)
+module _ (laws : Laws) (aim : Aim) (input : List ℕ) (s : Stream) (blocks : List Block) (jobs : List Job) (reads : ReadsLeft aim.reduce input s blocks) (planned : MayBePlanned s blocks) (within : length input ≤ most_bytes)
     (may : MayBeWanted aim.wanted) (can : CanBePlanned aim s blocks) (same : map block_asked jobs ≡ blocks_written aim.wanted can.by s blocks) (all : length blocks ≡ block_total s) where
   abbrev w : Wanted
   w = aim.wanted
@@ -153,13 +159,21 @@ module _ (laws : Laws) (aim : Aim) (input : List ℕ) (s : Stream) (blocks : Lis
   rewritten_of out whole =
       record { stream = s; blocks = blocks; reads = reads; can = can; right = right_of out whole; output = output_of out whole; short = whole.tiles.short }
 
+  -- what the written file means is left of what was read
+  left_of : (after : Stream) → meaning_of after written_blocks ≡ meaning_of s blocks → IsLeft aim.reduce (meaning_of reads.whole reads.all) (meaning_of after written_blocks)
+  left_of after same =
+      let d : ℕ = aim.reduce in
+      let here = laws.left d reads.whole reads.all (laws.stand input reads.whole reads.reads.read) reads.free in
+      let of : meaning_of after written_blocks ≡ meaning_of (stream_left d reads.whole) (blocks_left d reads.whole reads.all) =
+      same ∙ ap (λ (x : Stream). meaning_of x blocks) reads.stream ∙ ap (λ (b : List Block). meaning_of (stream_left d reads.whole) b) reads.blocks_are in
+      subst (λ m. IsLeft d (meaning_of reads.whole reads.all) m) (sym of) here
+
   kept_of : (out : List ℕ) → IsWholeFile plan out → IsKept aim input out
   kept_of out whole =
-      let small : length input ≤ 2 ^ 28 = within in
-      let kept = laws.keeps w can.by s blocks input out (output_of out whole) reads.read small reads.totals reads.gathered can.layers may can.free (right_of out whole) whole.tiles.short in
-      record { before = s; after = kept.0; blocks = blocks; reads = reads; by = can.by; is = can.is; kept = kept.1 }
+      let kept = laws.keeps w can.by s blocks out (output_of out whole) planned can.layers may can.free (right_of out whole) whole.tiles.short in
+      record { before = s; after = kept.0; blocks = blocks; reads = reads; by = can.by; is = can.is; kept = kept.1; left = left_of kept.0 kept.1.meaning }
 
-  counted : (n : ℕ) → n ≡ length blocks → HasBlocks input n
+  counted : (n : ℕ) → n ≡ length blocks → HasBlocks aim.reduce input n
   counted n is = record { stream = s; blocks = blocks; reads = reads; count_is = is }
 
   -- whole rounds, whose tiles are all written
@@ -189,7 +203,7 @@ module _ (laws : Laws) (aim : Aim) (input : List ℕ) (s : Stream) (blocks : Lis
 
   begun_short : (name : Text) (n : ℕ) (old new : Meaning) → n ≡ length blocks → IsFileBegun plan name old new → IsCutShort name aim input n old new
   begun_short name n old new is file =
-      inr (inr (record { within = within; count = counted n is; stands = inl (file.bytes, either_of file.bytes file.of, file.begun) }))
+      inr (inr (inr (record { within = within; count = counted n is; stands = inl (file.bytes, either_of file.bytes file.of, file.begun) })))
 
   -- a tile isn't written
   start_is : (why : Halt) (t : ℕ) (bytes : List ℕ) (is : IsHaltedAt plan why t bytes) → (round_of (blocks_in plan) t).start ≡ is.start
@@ -259,17 +273,17 @@ module _ (laws : Laws) (aim : Aim) (input : List ℕ) (s : Stream) (blocks : Lis
       inr (stopped.0, [], stopped.1, record { front = bytes; whole = sym (append-nil bytes); meaning = stopped.2 })
 
   stopped_short : (name : Text) (n : ℕ) (why : Halt) (t : ℕ) (old new : Meaning) → n ≡ length blocks → IsFileStopped plan name why t old new → IsCutShort name aim input n old new
-  stopped_short name n why t old new is file = inr (inr (record {
+  stopped_short name n why t old new is file = inr (inr (inr (record {
     within = within;
     count = counted n is;
     stands = inl (file.bytes, inl (cut_front why t file.bytes file.is), stopped_begun name file.bytes old new file.stopped);
-  }))
+  })))
 
   module _ (name : Text) (work : Work) (n bytes : ℕ) (tape : List TapeEntry) (old new : Meaning) (count : n ≡ length blocks) (of : IsTapeOf work blocks tape) where
-    taped : IsRunTape work input tape
+    taped : IsRunTape work aim.reduce input tape
     taped = inr (record { stream = s; blocks = blocks; reads = reads; of = of })
 
-    begun : (st : Status) → (IsVerdict st → ⊥) → Leaves name aim input st n bytes old new → IsTapedAfter input st (length tape) → IsFileBegun plan name old new → IsAnswered name work aim input st n bytes tape old new
+    begun : (st : Status) → (IsVerdict st → ⊥) → Leaves name aim input st n bytes old new → IsTapedAfter aim.reduce input st (length tape) → IsFileBegun plan name old new → IsAnswered name work aim input st n bytes tape old new
     begun st free leaves to file = record {
       verdict = λ v. absurd (free v);
       leaves = leaves;
@@ -279,8 +293,8 @@ module _ (laws : Laws) (aim : Aim) (input : List ℕ) (s : Stream) (blocks : Lis
       taped = to;
     }
 
-    cut : EndWithRound plan (length tape) → IsTapedInPart input (length tape)
-    cut to = inr (in_rounds input plan (length tape) reads all to)
+    cut : EndWithRound plan (length tape) → IsTapedInPart aim.reduce input (length tape)
+    cut to = inr (in_rounds aim.reduce input plan (length tape) reads all to)
 
     halted : (h : Halt) → IsFileHalted plan name h old new → IsTapedTo plan h (length tape) → IsAnswered name work aim input (status_of h) n bytes tape old new
     halted (halt.Bad t number) file to = record {
@@ -315,7 +329,7 @@ module _ (laws : Laws) (aim : Aim) (input : List ℕ) (s : Stream) (blocks : Lis
     written whole file = record {
       verdict = λ v. (within, file.bytes, rewritten_of file.bytes file.whole);
       leaves = record { out = file.bytes; is = rewritten_of file.bytes file.whole; made = file.made; kept = kept_of file.bytes file.whole; count = counted n count; long = file.count_is };
-      unsaid = inr (inr (record { within = within; count = counted n count; stands = inr (file.bytes, rewritten_of file.bytes file.whole, file.made) }));
+      unsaid = inr (inr (inr (record { within = within; count = counted n count; stands = inr (file.bytes, rewritten_of file.bytes file.whole, file.made) })));
       tape = taped;
       whole = λ done. counted (length tape) whole;
       taped = counted (length tape) whole;
@@ -328,22 +342,22 @@ module _ (laws : Laws) (aim : Aim) (input : List ℕ) (s : Stream) (blocks : Lis
 
 answered_by_rule : Laws → (name : Text) (work : Work) (aim : Aim) (input : List ℕ) (s : Stream) (blocks : List Block) (p : Plan) (wrote : Result ℕ Halt) (st : Status) (n bytes : ℕ) (tape : List TapeEntry) (old new : Meaning)
     → MayBeWanted aim.wanted → (r : Rule) → rule_in aim s blocks ≡ Some r → IsPlannedBy r s blocks aim.wanted p → IsCarriedOut p name work wrote n tape old new → IsEndOf wrote st bytes → length input ≤ most_bytes
-    → Reads input s blocks → IsAnswered name work aim input st n bytes tape old new
+    → ReadsLeft aim.reduce input s blocks → IsAnswered name work aim input st n bytes tape old new
 answered_by_rule laws name work aim input s blocks p wrote st n bytes tape old new may r is planned done ends within reads =
     let same : p ≡ plan_of s blocks aim.wanted (layers_of_rule r s blocks) p.jobs = plan_is r s blocks aim.wanted p planned in
     let own : IsCarriedOut (plan_of s blocks aim.wanted (layers_of_rule r s blocks) p.jobs) name work wrote n tape old new = subst (λ (q : Plan). IsCarriedOut q name work wrote n tape old new) same done in
     let can : CanBePlanned aim s blocks = record { by = r; is = is; layers = (own.plan.some, own.plan.few); free = laws.free s blocks aim.wanted r p done.plan planned } in
-    answered laws aim input s blocks p.jobs reads within may can (laws.blocks s blocks aim.wanted r p done.plan planned) own.plan.may.blocks_are.all name work wrote st n bytes tape old new own ends
+    answered laws aim input s blocks p.jobs reads own.plan.may within may can (laws.blocks s blocks aim.wanted r p done.plan planned) own.plan.may.blocks_are.all name work wrote st n bytes tape old new own ends
 
 answered_by : Laws → (name : Text) (work : Work) (aim : Aim) (input : List ℕ) (s : Stream) (blocks : List Block) (p : Plan) (wrote : Result ℕ Halt) (st : Status) (n bytes : ℕ) (tape : List TapeEntry) (old new : Meaning)
     → MayBeWanted aim.wanted → (o : Option Rule) → rule_in aim s blocks ≡ o → IsPlanned o s blocks aim.wanted p → IsCarriedOut p name work wrote n tape old new → IsEndOf wrote st bytes → length input ≤ most_bytes
-    → Reads input s blocks → IsAnswered name work aim input st n bytes tape old new
+    → ReadsLeft aim.reduce input s blocks → IsAnswered name work aim input st n bytes tape old new
 answered_by laws name work aim input s blocks p wrote st n bytes tape old new may None is planned done ends within reads = absurd planned
 answered_by laws name work aim input s blocks p wrote st n bytes tape old new may (Some r) is planned done ends within reads =
     answered_by_rule laws name work aim input s blocks p wrote st n bytes tape old new may r is planned done ends within reads
 
 pub answered_by_plan : Laws → (name : Text) (work : Work) (aim : Aim) (input : List ℕ) (s : Stream) (blocks : List Block) (p : Plan) (wrote : Result ℕ Halt) (st : Status) (n bytes : ℕ) (tape : List TapeEntry) (old new : Meaning)
-    → MayBeWanted aim.wanted → IsPlanned (rule_in aim s blocks) s blocks aim.wanted p → IsCarriedOut p name work wrote n tape old new → IsEndOf wrote st bytes → length input ≤ most_bytes → Reads input s blocks
+    → MayBeWanted aim.wanted → IsPlanned (rule_in aim s blocks) s blocks aim.wanted p → IsCarriedOut p name work wrote n tape old new → IsEndOf wrote st bytes → length input ≤ most_bytes → ReadsLeft aim.reduce input s blocks
     → IsAnswered name work aim input st n bytes tape old new
 answered_by_plan laws name work aim input s blocks p wrote st n bytes tape old new may planned done ends within reads =
     answered_by laws name work aim input s blocks p wrote st n bytes tape old new may (rule_in aim s blocks) refl planned done ends within reads

@@ -153,7 +153,7 @@ around_refused name called work kind aim input boxed s blocks bytes entries made
       leaves = inr (apart, untouched files);
       tape = is.answer.tape;
       whole = λ done. absurd (apart done);
-      taped = raised_taped (content input boxed) boxed.from s (length entries) is.answer.taped;
+      taped = raised_taped aim.reduce (content input boxed) boxed.from s (length entries) is.answer.taped;
     }
 
 -- ---- a codestream with one
@@ -192,22 +192,22 @@ around_written name called work kind aim input boxed s late blocks bytes long en
       found = found;
       verdict = λ no. absurd no;
       out = out;
-      tells = inr tells.count;
+      tells = inr (inl tells.count);
       leaves = inl (tells.is, tells.count, subst (λ (x : Status). LeavesFile name (file_in kind input boxed out) x long old new) e stands);
       tape = is.answer.tape;
       whole = λ f. absurd (undone status.WriteFault tt f);
-      taped = taped_late (content input boxed) status.Done (length entries) is.answer.taped;
+      taped = taped_late aim.reduce (content input boxed) status.Done (length entries) is.answer.taped;
     })
     by t (inr (inr e)) stands = rw e (record {
       within = within;
       found = found;
       verdict = λ no. absurd no;
       out = out;
-      tells = inr tells.count;
+      tells = inr (inl tells.count);
       leaves = inl (tells.is, tells.count, subst (λ (x : Status). LeavesFile name (file_in kind input boxed out) x long old new) e stands);
       tape = is.answer.tape;
       whole = λ f. absurd (undone status.NoMemory tt f);
-      taped = taped_late (content input boxed) status.Done (length entries) is.answer.taped;
+      taped = taped_late aim.reduce (content input boxed) status.Done (length entries) is.answer.taped;
     })
 
 -- ---- no codestream

@@ -16,7 +16,7 @@ use Rattle.jx_transcode.specs.declared.status.Status.TheVariants as status
 use Rattle.jx_rounds.specs.declared.tape.TapeEntry.{TapeEntry}
 use Rattle.jx_transcode.proofs.DoneLemmas.{undone}
 use Rattle.jx_transcode.proofs.LeftLemmas.{IsFront, begun_after, made_after, untouched_twice, whole}
-use Rattle.jx_transcode.proofs.MakeLemmas.{limit_told}
+use Rattle.jx_transcode.proofs.MakeLemmas.{chosen_told, limit_told}
 use Rattle.jx_transcode.proofs.TapeLemmas.{taped_late}
 
 -- ---- a front of a file is JP2 where the file is
@@ -90,14 +90,14 @@ jp2_after name work kind aim input s blocks bytes tape a b c first (inr around) 
 )
 
 -- ---- where the line isn't said
-told_late : (aim : Aim) (inner : List ℕ) (s : Status) (blocks : ℕ) (out : List ℕ) → TellsMade aim inner s blocks out → AreTold inner blocks
-told_late aim inner status.Done blocks out is = inr is.count
+told_late : (aim : Aim) (inner : List ℕ) (s : Status) (blocks : ℕ) (out : List ℕ) → TellsMade aim inner s blocks out → AreTold aim.reduce inner blocks
+told_late aim inner status.Done blocks out is = inr (inl is.count)
 told_late aim inner status.Words blocks out is = absurd is
 told_late aim inner (status.Unlike how) blocks out is = absurd is
 told_late aim inner (status.Rule number place) blocks out is = inl is
-told_late aim inner (status.Limit number found) blocks out is = limit_told inner number blocks is
-told_late aim inner (status.Choice number place) blocks out is = inr is
-told_late aim inner (status.Block number) blocks out is = inr is
+told_late aim inner (status.Limit number found) blocks out is = limit_told aim.reduce inner number blocks is
+told_late aim inner (status.Choice number place) blocks out is = chosen_told aim.reduce inner number blocks is
+told_late aim inner (status.Block number) blocks out is = inr (inl is)
 told_late aim inner status.ReadFault blocks out is = absurd is
 told_late aim inner status.WriteFault blocks out is = is
 told_late aim inner status.NoMemory blocks out is = is
@@ -128,7 +128,7 @@ around_late late (inl e) name work kind aim input boxed s blocks bytes tape old 
   ];
   tape = is.tape;
   whole = λ done. absurd (undone status.WriteFault tt done);
-  taped = taped_late (content input boxed) s (length tape) is.taped;
+  taped = taped_late aim.reduce (content input boxed) s (length tape) is.taped;
 })
 around_late late (inr e) name work kind aim input boxed s blocks bytes tape old new is = rw e (record {
   within = is.within;
@@ -142,7 +142,7 @@ around_late late (inr e) name work kind aim input boxed s blocks bytes tape old 
   ];
   tape = is.tape;
   whole = λ done. absurd (undone status.NoMemory tt done);
-  taped = taped_late (content input boxed) s (length tape) is.taped;
+  taped = taped_late aim.reduce (content input boxed) s (length tape) is.taped;
 })
 
 before_late : (late : Status) → (late ≡ status.WriteFault) ⊎ (late ≡ status.NoMemory) → (input : List ℕ) (s : Status) (blocks : ℕ) (tape : List TapeEntry) (old new : Meaning)

@@ -1,7 +1,8 @@
 -- What a written file keeps, it means.
-use Rattle.std.proofs.Common.{◌≡◌, ◌≤◌, ◌==◌, ◌&&◌, ◌∙◌, Bool, true, false, ℕ, List, [], ◌∷◌, length, None, ap, refl, sym}
+use Rattle.std.proofs.Common.{◌≡◌, ◌≤◌, ◌==◌, ◌&&◌, ◌∙◌, Bool, true, false, ℕ, List, [], ◌∷◌, length, None, ap, refl, subst, sym, inl, inr}
 use Rattle.std.specs.List.{find}
 use Rattle.std.proofs.lemmas.Bool.{and_from, eq-eqb}
+use Rattle.jx_base.specs.declared.pieces.Block.{Block}
 use Rattle.jx_codestream.specs.Shapes.{size_in}
 use Rattle.jx_marker.specs.declared.Siz.{Siz}
 use Rattle.jx_tier1_specs.specs.declared.coef.Coef.{Coef}
@@ -16,18 +17,21 @@ use Rattle.jx_same.specs.declared.answer.Field.TheVariants as field
 use Rattle.jx_same.specs.declared.answer.Spot.{Spot}
 use Rattle.jx_transcode.specs.Aims.{Aim}
 use Rattle.jx_transcode.specs.Outcome.{most_bytes}
-use Rattle.jx_transcode.specs.Rewritten.{IsKept}
+use Rattle.jx_transcode.specs.Rewritten.{IsKept, ReadsLeft}
 use Rattle.jx_transcode.specs.SameRun.{HasCodestream, SameVerdict}
 use Rattle.jx_transcode.specs.declared.status.Status.TheVariants as status
+use Rattle.jx_transcode.proofs.JudgeLemmas.{content_short}
+use Rattle.jx_transcode.proofs.OneVerdictLemmas.{Laws, one_left}
+use Rattle.jx_transcode.proofs.ReducedLemmas.{WholeLaws, left_is_all}
 
 -- ---- a meaning and itself
-same_number : (n : ℕ) → (n == n) ≡ true
+pub same_number : (n : ℕ) → (n == n) ≡ true
 same_number n = eq-eqb n n refl
 
 both : (x y : ℕ) → (x == x && y == y) ≡ true
 both x y = and_from (x == x) (y == y) (same_number x) (same_number y)
 
-canvas_self : (z : Siz) → same_canvas z z ≡ true
+pub canvas_self : (z : Siz) → same_canvas z z ≡ true
 canvas_self z =
     and_from ((z.x1 == z.x1 && z.y1 == z.y1) && (z.x0 == z.x0 && z.y0 == z.y0)) ((z.tw == z.tw && z.th == z.th) && (z.tx == z.tx && z.ty == z.ty))
     (and_from (z.x1 == z.x1 && z.y1 == z.y1) (z.x0 == z.x0 && z.y0 == z.y0) (both z.x1 z.y1) (both z.x0 z.y0))
@@ -63,14 +67,46 @@ one_answer : (s : Stream) (a b : Meaning) → b ≡ a → answer.Same ≡ answer
 one_answer s a b same = sym (ap (answer_of s a) same ∙ ap answer_at (self_none a (items_of s)))
 
 -- ---- an input and what was written of it
-pub kept_same : (aim : Aim) (input out inner again : List ℕ) (from to : ℕ) (kept : IsKept aim inner again) → length input ≤ most_bytes → length out ≤ most_bytes → HasCodestream input from inner → HasCodestream out to again
-    → totals_fault kept.after ≡ None → SameVerdict input out status.Done
-kept_same aim input out inner again from to kept short short_out has has_out within = record {
-  stream = kept.before;
-  blocks = kept.blocks;
-  accepted = record { within = short; from = from; inner = inner; has = has; reads = kept.reads };
+pub inner_short : (input inner : List ℕ) (from : ℕ) → length input ≤ most_bytes → HasCodestream input from inner → length inner ≤ most_bytes
+inner_short input inner from short (inl bare) = subst (λ (b : List ℕ). length b ≤ most_bytes) (sym bare.2) short
+inner_short input inner from short (inr boxed) = subst (λ (b : List ℕ). length b ≤ most_bytes) (sym boxed.4) (content_short input boxed.1 short)
+
+abbrev pub blocks_of : (aim : Aim) (input out : List ℕ) → IsKept aim input out → List Block
+blocks_of aim input out kept = blocks_written aim.wanted kept.by kept.before kept.blocks
+
+-- with 0 the input means what is left of it
+whole_meaning : WholeLaws → (d : ℕ) (input : List ℕ) (s : Stream) (blocks : List Block) → length input ≤ most_bytes → d ≡ 0 → (left : ReadsLeft d input s blocks) → meaning_of s blocks ≡ meaning_of left.whole left.all
+whole_meaning laws d input s blocks short none left =
+    let is = left_is_all laws d input s blocks short none left in
+    ap (λ (x : Stream). meaning_of x blocks) is.0 ∙ ap (λ (b : List Block). meaning_of left.whole b) is.1
+
+pub kept_same : WholeLaws → (aim : Aim) (input out inner again : List ℕ) (from to : ℕ) (kept : IsKept aim inner again) → aim.reduce ≡ 0 → length input ≤ most_bytes → length out ≤ most_bytes → HasCodestream input from inner
+    → HasCodestream out to again → totals_fault kept.after ≡ None → SameVerdict input out status.Done
+kept_same laws aim input out inner again from to kept none short short_out has has_out within = record {
+  stream = kept.reads.whole;
+  blocks = kept.reads.all;
+  accepted = record { within = short; from = from; inner = inner; has = has; reads = kept.reads.reads };
   other = kept.after;
-  others = blocks_written aim.wanted kept.by kept.before kept.blocks;
+  others = blocks_of aim inner again kept;
   accepted_too = record { within = short_out; from = to; inner = again; has = has_out; reads = record { read = kept.kept.read; totals = within; gathered = kept.kept.gathered } };
-  is = one_answer kept.before (meaning_of kept.before kept.blocks) (meaning_of kept.after (blocks_written aim.wanted kept.by kept.before kept.blocks)) kept.kept.meaning;
+  is = one_answer kept.reads.whole (meaning_of kept.reads.whole kept.reads.all) (meaning_of kept.after (blocks_of aim inner again kept))
+      (kept.kept.meaning ∙ whole_meaning laws aim.reduce inner kept.before kept.blocks (inner_short input inner from short has) none kept.reads);
 }
+
+-- ---- two files that were written of an input
+-- what is left of an input without as many resolutions
+pub kept_both : Laws → (aim more : Aim) (input first second one two : List ℕ) (at to : ℕ) (kept : IsKept aim input one) (again : IsKept more input two) → aim.reduce ≡ more.reduce → length input ≤ most_bytes
+    → length first ≤ most_bytes → length second ≤ most_bytes → HasCodestream first at one → HasCodestream second to two → totals_fault kept.after ≡ None → totals_fault again.after ≡ None → SameVerdict first second status.Done
+kept_both laws aim more input first second one two at to kept again as_many short short_first short_second has has_too within within_too =
+    let other : ReadsLeft aim.reduce input again.before again.blocks = subst (λ (d : ℕ). ReadsLeft d input again.before again.blocks) (sym as_many) again.reads in
+    let left = one_left laws aim.reduce input kept.before again.before kept.blocks again.blocks short kept.reads other in
+    let means : meaning_of again.before again.blocks ≡ meaning_of kept.before kept.blocks =
+    ap (λ (x : Stream). meaning_of x again.blocks) left.0 ∙ ap (λ (b : List Block). meaning_of kept.before b) left.1 in record {
+      stream = kept.after;
+      blocks = blocks_of aim input one kept;
+      accepted = record { within = short_first; from = at; inner = one; has = has; reads = record { read = kept.kept.read; totals = within; gathered = kept.kept.gathered } };
+      other = again.after;
+      others = blocks_of more input two again;
+      accepted_too = record { within = short_second; from = to; inner = two; has = has_too; reads = record { read = again.kept.read; totals = within_too; gathered = again.kept.gathered } };
+      is = one_answer kept.after (meaning_of kept.after (blocks_of aim input one kept)) (meaning_of again.after (blocks_of more input two again)) (again.kept.meaning ∙ means ∙ sym kept.kept.meaning);
+    }

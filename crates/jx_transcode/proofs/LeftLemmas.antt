@@ -41,8 +41,10 @@ pub cut_after : (name : Text) (aim : Aim) (input : List ℕ) (blocks : ℕ) (a b
 cut_after name aim input blocks a b c first (inl refused) = inl (refused_after blocks a b c first refused)
 cut_after name aim input blocks a b c first (inr (inl over)) =
     inr (inl (record { within = over.within; why = over.why; is = over.is; caused = over.caused; count = over.count; same = untouched_twice a b c first over.same }))
-cut_after name aim input blocks a b c first (inr (inr begun)) =
-    inr (inr (record { within = begun.within; count = begun.count; stands = stands_after name aim input a b c first begun.stands }))
+cut_after name aim input blocks a b c first (inr (inr (inl all))) =
+    inr (inr (inl (record { within = all.within; number = all.number; place = all.place; is = all.is; count = all.count; same = untouched_twice a b c first all.same })))
+cut_after name aim input blocks a b c first (inr (inr (inr begun))) =
+    inr (inr (inr (record { within = begun.within; count = begun.count; stands = stands_after name aim input a b c first begun.stands })))
 
 pub leaves_after : (name : Text) (aim : Aim) (input : List ℕ) (s : Status) (blocks bytes : ℕ) (a b c : Meaning) → IsUntouched a b → Leaves name aim input s blocks bytes b c
     → Leaves name aim input s blocks bytes a c

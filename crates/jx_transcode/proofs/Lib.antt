@@ -6,10 +6,12 @@ mod SameLemmas
 mod SameVerdictLemmas
 mod SomeSameLemmas
 mod KeptSameLemmas
+mod SamplingLemmas
 mod FiledLemmas
 mod TapeLemmas
 mod AnswerLemmas
 mod RefusedLemmas
+mod ReducedLemmas
 mod LeftLemmas
 mod Jp2Lemmas
 mod AroundLemmas

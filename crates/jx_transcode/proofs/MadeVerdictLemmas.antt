@@ -14,6 +14,7 @@ use Rattle.jx_plan.specs.declared.faults.PlanFault.{PlanFault}
 use Rattle.jx_plan.specs.declared.faults.PlanFault.TheVariants as unplanned
 use Rattle.jx_plan.specs.Plan.{MayBePlanned}
 use Rattle.jx_plan.specs.Planned.{HasPlanCause, MakesLayers}
+use Rattle.jx_reduce.specs.Unreducible.{first_choice}
 use Rattle.jx_generate.specs.Headers.{AreSizes}
 use Rattle.jx_generate.specs.Made.{body_made}
 use Rattle.jx_generate.specs.Plain.{IsPlain}
@@ -23,11 +24,12 @@ use Rattle.jx_transcode.specs.Aims.{Aim, MayBeAimed, rule_in}
 use Rattle.jx_transcode.specs.MadeVerdict.{HasNoRule}
 use Rattle.jx_transcode.specs.MakeRun.{aim_made, input_of, wanted_made}
 use Rattle.jx_transcode.specs.Outcome.{Verdict, most_bytes}
-use Rattle.jx_transcode.specs.Rewritten.{IsBad, IsTooLongAt, IsUnplanned, Reads}
+use Rattle.jx_transcode.specs.Rewritten.{IsBad, IsIrreducible, IsTooLongAt, IsUnplanned, Reads, ReadsLeft}
 use Rattle.jx_rounds.specs.Tiles.{IsWrongBlock}
 use Rattle.jx_transcode.specs.declared.status.Status.TheVariants as status
 use Rattle.jx_transcode.proofs.AcceptedLemmas.{AllAccepted, made_short}
-use Rattle.jx_transcode.proofs.OneVerdictLemmas.{Laws, reads_on}
+use Rattle.jx_transcode.proofs.OneVerdictLemmas.{Laws, free_or_choice, reads_on}
+use Rattle.jx_transcode.proofs.ReducedLemmas.{WholeLaws, left_reads, planned_of}
 use Rattle.jx_transcode.proofs.PlannedMade.{MadeLaws, never_wrong, only_rule}
 
 choice_number : (number place : ℕ) → unplanned.Choice number place ≡ unplanned.Choice 6 0 → number ≡ 6
@@ -40,7 +42,7 @@ pub makes_layers : (o : Option Rule) (s : Stream) (blocks : List Block) → IfSo
 makes_layers None s blocks h = tt
 makes_layers (Some r) s blocks h = h
 
-module _ (laws : Laws) (law : AllAccepted) (made_laws : MadeLaws) (rule : List ℕ → StreamFacts → Option Rule) (m : Make) (may : MayBeMade m) where
+module _ (laws : Laws) (law : AllAccepted) (made_laws : MadeLaws) (whole_laws : WholeLaws) (rule : List ℕ → StreamFacts → Option Rule) (m : Make) (may : MayBeMade m) where
   abbrev aim : Aim
   aim = aim_made rule
 
@@ -56,6 +58,14 @@ module _ (laws : Laws) (law : AllAccepted) (made_laws : MadeLaws) (rule : List �
   small : length (input_of m) ≤ most_bytes
   small = made_short law m may
 
+  -- nothing is left out
+  reads_of : (s : Stream) (blocks : List Block) → length (input_of m) ≤ most_bytes → ReadsLeft 0 (input_of m) s blocks → Reads (input_of m) s blocks
+  reads_of s blocks short left = left_reads whole_laws 0 (input_of m) s blocks short refl left
+
+  never_irreducible : (number place : ℕ) → length (input_of m) ≤ most_bytes → IsIrreducible 0 (input_of m) number place → ⊥
+  never_irreducible number place short is =
+      free_or_choice (first_choice 0 is.stream) number place (whole_laws.free is.stream (planned_of whole_laws (input_of m) is.stream is.blocks short is.reads).headers) is.cause
+
   same_stream : (s : Stream) (blocks : List Block) → length (input_of m) ≤ most_bytes → Reads (input_of m) s blocks → s ≡ made
   same_stream s blocks short reads = laws.one_stream (input_of m) s made reads.read.spelled accepted.read.spelled
 
@@ -66,20 +76,21 @@ module _ (laws : Laws) (law : AllAccepted) (made_laws : MadeLaws) (rule : List �
   without_rule : (e : PlanFault) → length (input_of m) ≤ most_bytes → MayBeAimed aim → (e ≡ unplanned.NoMemory → ⊥) → IsUnplanned aim (input_of m) e
       → HasNoRule aim (input_of m) × (e ≡ unplanned.Choice 6 0)
   without_rule e short aimed caused is =
-      let same : is.stream ≡ made = same_stream is.stream is.blocks short is.reads in
+      let same : is.stream ≡ made = same_stream is.stream is.blocks short (reads_of is.stream is.blocks short is.reads) in
       let P : Stream → Type 0 = λ s. HasPlanCause (rule_in aim s is.blocks) s is.blocks wanted_made e in
       let cause : HasPlanCause (rule_in aim made is.blocks) made is.blocks wanted_made e = subst P same is.cause in
       let makes : MakesLayers (rule_in aim made is.blocks) made is.blocks = makes_layers (rule_in aim made is.blocks) made is.blocks (aimed.layers (facts_of made is.blocks)) in
-      let lacks = only_rule made_laws m.width m.height (length (body_made m.seed m.width m.height)) is.blocks sizes (may_be_planned is.stream is.blocks short is.reads) (rule_in aim made is.blocks) e makes caused cause in
+      let lacks = only_rule made_laws m.width m.height (length (body_made m.seed m.width m.height)) is.blocks sizes (may_be_planned is.stream is.blocks short (reads_of is.stream is.blocks short is.reads)) (rule_in aim made is.blocks) e makes caused cause in
       let Q : Stream → Type 0 = λ s. rule_in aim s is.blocks ≡ None in
       (record { stream = is.stream; blocks = is.blocks; reads = is.reads; none = subst Q (sym same) lacks.0 }, lacks.1)
 
   pub no_choice : (number place : ℕ) → MayBeAimed aim → Verdict aim (input_of m) (status.Choice number place) → (number ≡ 7) ⊎ ((number ≡ 6) × (place ≡ 0) × HasNoRule aim (input_of m))
   no_choice number place aimed verdict = by verdict.1
     where
-      by : ((number ≡ 7) × IsTooLongAt aim (input_of m) place) ⊎ IsUnplanned aim (input_of m) (unplanned.Choice number place) → (number ≡ 7) ⊎ ((number ≡ 6) × (place ≡ 0) × HasNoRule aim (input_of m))
+      by : ((number ≡ 7) × IsTooLongAt aim (input_of m) place) ⊎ (IsUnplanned aim (input_of m) (unplanned.Choice number place) ⊎ IsIrreducible 0 (input_of m) number place) → (number ≡ 7) ⊎ ((number ≡ 6) × (place ≡ 0) × HasNoRule aim (input_of m))
       by (inl long) = inl long.0
-      by (inr is) =
+      by (inr (inr is)) = absurd (never_irreducible number place verdict.0 is)
+      by (inr (inl is)) =
           let lacks = without_rule (unplanned.Choice number place) verdict.0 aimed (λ e. cc) is in
           inr (choice_number number place lacks.1, choice_place number place lacks.1, lacks.0)
 
@@ -103,4 +114,4 @@ module _ (laws : Laws) (law : AllAccepted) (made_laws : MadeLaws) (rule : List �
   pub no_block : (number : ℕ) → Verdict aim (input_of m) (status.Block number) → ⊥
   no_block number verdict =
       let bad : IsBad aim (input_of m) number = verdict.1 in
-      right bad.blocks number (slice_get bad.blocks number) (plain bad.stream bad.blocks verdict.0 bad.reads) refl bad.is.wrong
+      right bad.blocks number (slice_get bad.blocks number) (plain bad.stream bad.blocks verdict.0 (reads_of bad.stream bad.blocks verdict.0 bad.reads)) refl bad.is.wrong

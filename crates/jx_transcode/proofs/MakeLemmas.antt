@@ -12,7 +12,7 @@ use Rattle.jx_options.specs.Work.{MayBeWork, Work}
 use Rattle.jx_transcode.specs.Aims.{Aim}
 use Rattle.jx_transcode.specs.Filed.{IsAnswered}
 use Rattle.jx_transcode.specs.MakeRun.{AreTold, ComesOut, EndsMade, IsLastMade, IsReadyToSay, TellsMade, aim_made, input_of, make_line, wanted_made, work_made}
-use Rattle.jx_transcode.specs.Outcome.{EndsAs, IsCutShort, IsLimited, IsMade, Leaves, Says, line_of}
+use Rattle.jx_transcode.specs.Outcome.{EndsAs, IsChosen, IsCutShort, IsLimited, IsMade, Leaves, Says, line_of}
 use Rattle.jx_transcode.specs.declared.status.Status.{Status}
 use Rattle.jx_transcode.specs.declared.status.Status.TheVariants as status
 use Rattle.jx_rounds.specs.declared.tape.TapeEntry.{TapeEntry}
@@ -27,26 +27,31 @@ Rules = List ℕ → StreamFacts → Option Rule
 last_made : (name out : List ℕ) (new : Meaning) → IsMade name out empty new → IsLastMade name out new
 last_made name out new made = ap (λ (x : Meaning). x.written) made.2 ∙ rw made.1.written refl
 
-cut_told : (name : List ℕ) (aim : Aim) (input : List ℕ) (blocks : ℕ) (old new : Meaning) → IsCutShort name aim input blocks old new → AreTold input blocks
+cut_told : (name : List ℕ) (aim : Aim) (input : List ℕ) (blocks : ℕ) (old new : Meaning) → IsCutShort name aim input blocks old new → AreTold aim.reduce input blocks
 cut_told name aim input blocks old new (inl refused) = inl refused.0
-cut_told name aim input blocks old new (inr (inl over)) = inr over.count
-cut_told name aim input blocks old new (inr (inr begun)) = inr begun.count
+cut_told name aim input blocks old new (inr (inl over)) = inr (inl over.count)
+cut_told name aim input blocks old new (inr (inr (inl all))) = inr (inr all.count)
+cut_told name aim input blocks old new (inr (inr (inr begun))) = inr (inl begun.count)
 
-pub limit_told : (input : List ℕ) (number blocks : ℕ) → IsLimited input number blocks → AreTold input blocks
-limit_told input number blocks (inl seven) = inr seven.1
-limit_told input number blocks (inr few) = inl few.1
+pub limit_told : (d : ℕ) (input : List ℕ) (number blocks : ℕ) → IsLimited d input number blocks → AreTold d input blocks
+limit_told d input number blocks (inl seven) = inr (inl seven.1)
+limit_told d input number blocks (inr few) = inl few.1
+
+pub chosen_told : (d : ℕ) (input : List ℕ) (number blocks : ℕ) → IsChosen d input number blocks → AreTold d input blocks
+chosen_told d input number blocks (inl few) = inr (inl few.1)
+chosen_told d input number blocks (inr all) = inr (inr all.1)
 
 -- what stands after a status other than a fault's
 told_of : (name : List ℕ) (aim : Aim) (input : List ℕ) (s : Status) (blocks bytes : ℕ) (new : Meaning) → (s ≡ status.Words → ⊥) → (s ≡ status.ReadFault → ⊥) → (s ≡ status.WriteFault → ⊥)
-    → Leaves name aim input s blocks bytes empty new → AreTold input blocks
-told_of name aim input status.Done blocks bytes new words read write leaves = inr leaves.count
+    → Leaves name aim input s blocks bytes empty new → AreTold aim.reduce input blocks
+told_of name aim input status.Done blocks bytes new words read write leaves = inr (inl leaves.count)
 told_of name aim input status.Words blocks bytes new words read write leaves = absurd (words refl)
 told_of name aim input (status.Unlike how) blocks bytes new words read write leaves = absurd leaves
 told_of name aim input (status.Rule number place) blocks bytes new words read write leaves = inl leaves.0
-told_of name aim input (status.Limit number found) blocks bytes new words read write leaves = limit_told input number blocks leaves.0
-told_of name aim input (status.Choice number place) blocks bytes new words read write (inl seven) = inr seven.1.count
-told_of name aim input (status.Choice number place) blocks bytes new words read write (inr few) = inr few.1
-told_of name aim input (status.Block number) blocks bytes new words read write leaves = inr leaves.count
+told_of name aim input (status.Limit number found) blocks bytes new words read write leaves = limit_told aim.reduce input number blocks leaves.0
+told_of name aim input (status.Choice number place) blocks bytes new words read write (inl seven) = inr (inl seven.1.count)
+told_of name aim input (status.Choice number place) blocks bytes new words read write (inr few) = chosen_told aim.reduce input number blocks few.1
+told_of name aim input (status.Block number) blocks bytes new words read write leaves = inr (inl leaves.count)
 told_of name aim input status.ReadFault blocks bytes new words read write leaves = absurd (read refl)
 told_of name aim input status.WriteFault blocks bytes new words read write leaves = absurd (write refl)
 told_of name aim input status.NoMemory blocks bytes new words read write leaves = cut_told name aim input blocks empty new leaves
@@ -69,7 +74,7 @@ out_of name aim input status.Words blocks bytes new words read write leaves = ab
 out_of name aim input (status.Unlike how) blocks bytes new words read write leaves = absurd leaves
 out_of name aim input (status.Rule number place) blocks bytes new words read write leaves = none_out name aim input (status.Rule number place) blocks bytes new tt leaves.0
 out_of name aim input (status.Limit number found) blocks bytes new words read write leaves = none_out name aim input (status.Limit number found) blocks bytes new tt leaves.0
-out_of name aim input (status.Choice number place) blocks bytes new words read write (inl seven) = none_out name aim input (status.Choice number place) blocks bytes new tt seven.1.count
+out_of name aim input (status.Choice number place) blocks bytes new words read write (inl seven) = none_out name aim input (status.Choice number place) blocks bytes new tt (inl (omega (arith, seven.0), seven.1.count))
 out_of name aim input (status.Choice number place) blocks bytes new words read write (inr few) = none_out name aim input (status.Choice number place) blocks bytes new tt few.1
 out_of name aim input (status.Block number) blocks bytes new words read write leaves = none_out name aim input (status.Block number) blocks bytes new tt leaves.count
 out_of name aim input status.ReadFault blocks bytes new words read write leaves = absurd (read refl)
@@ -116,7 +121,7 @@ made_said m rule s late blocks before after total entries fault_before fault_now
     tells = ready.told;
     tape = ready.comes.tape;
     whole = λ done. absurd (undone status.WriteFault tt done);
-    taped = taped_late (input_of m) s (length entries) ready.comes.taped;
+    taped = taped_late 0 (input_of m) s (length entries) ready.comes.taped;
   };
   said = fault.1;
 })
@@ -128,7 +133,7 @@ made_said m rule s late blocks before after total entries fault_before fault_now
     tells = ready.told;
     tape = ready.comes.tape;
     whole = λ done. absurd (undone status.NoMemory tt done);
-    taped = taped_late (input_of m) s (length entries) ready.comes.taped;
+    taped = taped_late 0 (input_of m) s (length entries) ready.comes.taped;
   };
   said = inl short.1;
 })

@@ -5,7 +5,6 @@ use Rattle.jx_base.specs.declared.style.Style.{Style}
 use Rattle.jx_io.specs.Device.{Meaning, joined}
 use Rattle.jx_cli.specs.Words.{Request}
 use Rattle.jx_codestream.specs.declared.Stream.{Stream}
-use Rattle.jx_codestream.specs.Read.{IsRead}
 use Rattle.jx_jp2.specs.declared.Boxed.{Boxed}
 use Rattle.jx_jp2.specs.Codestream.{content}
 use Rattle.jx_layers.specs.Rule.{Rule}
@@ -20,6 +19,7 @@ use Rattle.jx_transcode.specs.Filed.{told_of_plan}
 use Rattle.jx_transcode.specs.Jp2Run.{raised}
 use Rattle.jx_transcode.specs.Misfits.{HasTile, IsChoice, IsMisfitBy, IsMisfitOf, IsMisfitOfFile, TellsMisfit}
 use Rattle.jx_transcode.specs.Outcome.{EndsAs, most_bytes}
+use Rattle.jx_transcode.specs.Rewritten.{ReadsLeft}
 use Rattle.jx_transcode.specs.declared.status.Status.{Status}
 use Rattle.jx_transcode.specs.declared.status.Status.TheVariants as status
 use Rattle.jx_transcode.proofs.LeftLemmas.{IsFront, short_told}
@@ -85,28 +85,34 @@ caused_tile rule s blocks w e (inr (whole, inl unfit)) = unfit_tile s w.precinct
 caused_tile rule s blocks w e (inr (whole, inr lacks)) = lacking_tile rule s blocks w e lacks
 
 -- ---- from the plan's fault to the status, to that of a JP2 file, and to what the device tells
-pub planned_misfit : (precincts : Option (List ℕ)) (input : List ℕ) (stream : Stream) (e : PlanFault) (s : Status) (m : Misfit) → length input ≤ most_bytes → IsRead input stream → s ≡ told_of_plan e → IsMisfitBy precincts stream e m
-    → IsMisfitOf precincts input s m
-planned_misfit precincts input stream (unplanned.Choice number place) s m within read told is =
-    record { within = within; stream = stream; read = read; tile = place; is = told ∙ ap (λ (n : ℕ). status.Choice n place) is.0; first = is.1 }
-planned_misfit precincts input stream (unplanned.Limit number found) s m within read told is = absurd is
-planned_misfit precincts input stream unplanned.NoMemory s m within read told is = absurd is
+pub planned_misfit : (precincts : Option (List ℕ)) (d : ℕ) (input : List ℕ) (stream : Stream) (blocks : List Block) (e : PlanFault) (s : Status) (m : Misfit) → length input ≤ most_bytes → ReadsLeft d input stream blocks → s ≡ told_of_plan e
+    → IsMisfitBy precincts stream e m → IsMisfitOf precincts d input s m
+planned_misfit precincts d input stream blocks (unplanned.Choice number place) s m within left told is = record {
+  within = within;
+  stream = left.whole;
+  read = left.reads.read;
+  tile = place;
+  is = told ∙ ap (λ (n : ℕ). status.Choice n place) is.0;
+  first = subst (λ (x : Stream). IsMisfitAt precincts x place m) left.stream is.1;
+}
+planned_misfit precincts d input stream blocks (unplanned.Limit number found) s m within left told is = absurd is
+planned_misfit precincts d input stream blocks unplanned.NoMemory s m within left told is = absurd is
 
-pub raised_misfit : (precincts : Option (List ℕ)) (from : ℕ) (inner input : List ℕ) (boxed : Boxed) (s : Status) (m : Misfit) → inner ≡ content input boxed → IsMisfitOf precincts inner s m
-    → IsMisfitOf precincts (content input boxed) (raised from s) m
-raised_misfit precincts from inner input boxed s m same is = subst (λ (b : List ℕ). IsMisfitOf precincts b (raised from s) m) same
+pub raised_misfit : (precincts : Option (List ℕ)) (d from : ℕ) (inner input : List ℕ) (boxed : Boxed) (s : Status) (m : Misfit) → inner ≡ content input boxed → IsMisfitOf precincts d inner s m
+    → IsMisfitOf precincts d (content input boxed) (raised from s) m
+raised_misfit precincts d from inner input boxed s m same is = subst (λ (b : List ℕ). IsMisfitOf precincts d b (raised from s) m) same
     (record { within = is.within; stream = is.stream; read = is.read; tile = is.tile; is = ap (raised from) is.is; first = is.first })
 
-pub misfit_within : (precincts : Option (List ℕ)) (input : List ℕ) (s : Status) (m : Misfit) → IsMisfitOfFile precincts input s m → length input ≤ most_bytes
-misfit_within precincts input s m (inl bare) = bare.1.within
-misfit_within precincts input s m (inr jp2) = jp2.1.0
+pub misfit_within : (precincts : Option (List ℕ)) (d : ℕ) (input : List ℕ) (s : Status) (m : Misfit) → IsMisfitOfFile precincts d input s m → length input ≤ most_bytes
+misfit_within precincts d input s m (inl bare) = bare.1.within
+misfit_within precincts d input s m (inr jp2) = jp2.1.0
 
-pub misfit_told : (request : Request) (wanted : Wanted) (read : List ℕ) (s late : Status) (old : Meaning) (told : Option Misfit) (m : Misfit) → IsFront (joined (old.holds request.from)) read → wanted ≡ request.wanted
-    → IfSome told (λ m. IsMisfitOfFile wanted.precincts read s m) → (told ≡ Some m) × (late ≡ s) → TellsMisfit request m late old
-misfit_told request wanted read s late old told m front same is now =
-    let here : IsMisfitOfFile wanted.precincts read s m = subst (λ o. IfSome o (λ m. IsMisfitOfFile wanted.precincts read s m)) now.0 is in
+pub misfit_told : (request : Request) (wanted : Wanted) (d : ℕ) (read : List ℕ) (s late : Status) (old : Meaning) (told : Option Misfit) (m : Misfit) → IsFront (joined (old.holds request.from)) read → wanted ≡ request.wanted → d ≡ request.reduce
+    → IfSome told (λ m. IsMisfitOfFile wanted.precincts d read s m) → (told ≡ Some m) × (late ≡ s) → TellsMisfit request m late old
+misfit_told request wanted d read s late old told m front same many is now =
+    let here : IsMisfitOfFile wanted.precincts d read s m = subst (λ o. IfSome o (λ m. IsMisfitOfFile wanted.precincts d read s m)) now.0 is in
     record {
       input = read;
-      told = short_told (joined (old.holds request.from)) read front (misfit_within wanted.precincts read s m here);
-      is = rw (now.1, ← same) here;
+      told = short_told (joined (old.holds request.from)) read front (misfit_within wanted.precincts d read s m here);
+      is = rw (now.1, ← same, ← many) here;
     }

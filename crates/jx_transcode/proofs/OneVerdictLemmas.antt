@@ -17,6 +17,10 @@ use Rattle.jx_plan.specs.declared.faults.PlanFault.TheVariants as unplanned
 use Rattle.jx_layers.specs.Rule.{Rule}
 use Rattle.jx_plan.specs.Planned.{CanBePlannedBy, HasPlanCause, blocks_written, layers_of_rule}
 use Rattle.jx_options.specs.Wanted.{Wanted}
+use Rattle.jx_reduce.specs.Reduction.{blocks_left, stream_left}
+use Rattle.jx_reduce.specs.Unreducible.{first_choice}
+use Rattle.jx_reduce.specs.declared.faults.ReduceFault.{ReduceFault}
+use Rattle.jx_reduce.specs.declared.faults.ReduceFault.TheVariants as unreduced
 use Rattle.jx_tier2_writer.specs.Ready.{AreShort}
 use Rattle.jx_tier2_writer.specs.TileParts.{AreTilePartsOf}
 use Rattle.jx_transcode.specs.declared.status.Status.{Status}
@@ -24,7 +28,7 @@ use Rattle.jx_transcode.specs.declared.status.Status.TheVariants as status
 use Rattle.jx_transcode.specs.Aims.{Aim, rule_in}
 use Rattle.jx_transcode.specs.Judged.{BreaksTiles}
 use Rattle.jx_transcode.specs.Outcome.{Verdict, most_bytes}
-use Rattle.jx_transcode.specs.Rewritten.{CanBePlanned, IsBad, IsLong, IsRewritten, IsSpoiled, IsTooLongAt, IsUnplanned, Reads, headers_of}
+use Rattle.jx_transcode.specs.Rewritten.{CanBePlanned, IsBad, IsIrreducible, IsLong, IsRewritten, IsSpoiled, IsTooLongAt, IsUnplanned, Reads, ReadsLeft, headers_of}
 use Rattle.jx_rounds.specs.Tiles.{IsRight, IsWrongAt}
 use Rattle.jx_rounds.proofs.FrontLemmas.{tiles_stay}
 use Rattle.jx_transcode.proofs.WrongLemmas.{one_wrong, right_in_all, right_or_wrong}
@@ -74,6 +78,24 @@ one_reading laws input s t blocks others short reads again =
     let same : IsGathered input s others = subst (λ (x : Stream). IsGathered input x others) one again.gathered in
     let few : length input ≤ 2 ^ 28 = short in
     (one, laws.one_blocks input s others blocks reads.read (omega arith) reads.totals same reads.gathered)
+
+-- so does what is left of it
+pub left_on : Laws → (aim : Aim) (input : List ℕ) (s : Stream) (blocks : List Block) (f : StreamFault) → length input ≤ most_bytes → ReadsLeft aim.reduce input s blocks → Stops input f → ⊥
+left_on laws aim input s blocks f short left stops = reads_on laws input left.whole left.all f short left.reads stops
+
+pub one_left : Laws → (d : ℕ) (input : List ℕ) (s t : Stream) (blocks others : List Block) → length input ≤ most_bytes → ReadsLeft d input s blocks → ReadsLeft d input t others → (t ≡ s) × (others ≡ blocks)
+one_left laws d input s t blocks others short left again =
+    let one = one_reading laws input left.whole again.whole left.all again.all short left.reads again.reads in (
+      again.stream ∙ ap (λ (x : Stream). stream_left d x) one.0 ∙ sym left.stream,
+      again.blocks_are ∙ ap (λ (x : Stream). blocks_left d x again.all) one.0 ∙ ap (λ (b : List Block). blocks_left d left.whole b) one.1 ∙ sym left.blocks_are,
+    )
+
+-- nothing or one choice is in the way of what is left
+pub free_or_choice : (o : Option ReduceFault) (n p : ℕ) → o ≡ None → o ≡ Some (unreduced.Choice n p) → ⊥
+free_or_choice o n p e f = cc
+
+one_choice : (o : Option ReduceFault) (n p k q : ℕ) → o ≡ Some (unreduced.Choice n p) → o ≡ Some (unreduced.Choice k q) → status.Choice n p ≡ status.Choice k q
+one_choice o n p k q e f = cc
 
 -- an input that can be planned has one rule, and nothing is in the way of a plan by it
 one_rule : (o : Option Rule) (r q : Rule) → o ≡ Some r → o ≡ Some q → r ≡ q
@@ -168,9 +190,9 @@ told_of unplanned.NoMemory = status.NoMemory
 
 module _ (laws : Laws) (aim : Aim) (input : List ℕ) (short : length input ≤ most_bytes) where
   -- a tile of the stream that is read again is one of the stream that was read, and is written by the same rule
-  module _ (s t : Stream) (blocks others : List Block) (reads : Reads input s blocks) (again : Reads input t others) (can : CanBePlanned aim s blocks) (too : CanBePlanned aim t others) where
+  module _ (s t : Stream) (blocks others : List Block) (reads : ReadsLeft aim.reduce input s blocks) (again : ReadsLeft aim.reduce input t others) (can : CanBePlanned aim s blocks) (too : CanBePlanned aim t others) where
     abbrev same : (t ≡ s) × (others ≡ blocks)
-    same = one_reading laws input s t blocks others short reads again
+    same = one_left laws aim.reduce input s t blocks others short reads again
 
     same_rule : too.by ≡ can.by
     same_rule =
@@ -220,25 +242,37 @@ module _ (laws : Laws) (aim : Aim) (input : List ℕ) (short : length input ≤ 
       (fine_of laws aim input out x).none y.tile there.inside (inl (n, there.is))
 
   -- the cause, of the stream that is read
-  cause_here : (s : Stream) (blocks : List Block) (e : PlanFault) → Reads input s blocks → IsUnplanned aim input e → HasPlanCause (rule_in aim s blocks) s blocks aim.wanted e
+  cause_here : (s : Stream) (blocks : List Block) (e : PlanFault) → ReadsLeft aim.reduce input s blocks → IsUnplanned aim input e → HasPlanCause (rule_in aim s blocks) s blocks aim.wanted e
   cause_here s blocks e reads is =
-      let one = one_reading laws input s is.stream blocks is.blocks short reads is.reads in
+      let one = one_left laws aim.reduce input s is.stream blocks is.blocks short reads is.reads in
       let of_stream : HasPlanCause (rule_in aim s is.blocks) s is.blocks aim.wanted e =
       subst (λ (x : Stream). HasPlanCause (rule_in aim x is.blocks) x is.blocks aim.wanted e) one.0 is.cause in
       subst (λ (b : List Block). HasPlanCause (rule_in aim s b) s b aim.wanted e) one.1 of_stream
 
-  never_caused : (s : Stream) (blocks : List Block) (e : PlanFault) → (e ≡ unplanned.NoMemory → ⊥) → Reads input s blocks → CanBePlanned aim s blocks → IsUnplanned aim input e → ⊥
+  never_caused : (s : Stream) (blocks : List Block) (e : PlanFault) → (e ≡ unplanned.NoMemory → ⊥) → ReadsLeft aim.reduce input s blocks → CanBePlanned aim s blocks → IsUnplanned aim input e → ⊥
   never_caused s blocks e caused reads can is = can_or_caused laws aim s blocks e caused can (cause_here s blocks e reads is)
 
   same_cause : (e f : PlanFault) → (e ≡ unplanned.NoMemory → ⊥) → (f ≡ unplanned.NoMemory → ⊥) → IsUnplanned aim input e → IsUnplanned aim input f → e ≡ f
   same_cause e f one other x y =
       laws.cause x.stream x.blocks aim.wanted (rule_in aim x.stream x.blocks) e f one other x.cause (cause_here x.stream x.blocks f x.reads y)
 
+  -- what is left, and what is in its way
+  choice_here : (s : Stream) (blocks : List Block) (n p : ℕ) → Reads input s blocks → IsIrreducible aim.reduce input n p → first_choice aim.reduce s ≡ Some (unreduced.Choice n p)
+  choice_here s blocks n p reads is =
+      let one = one_reading laws input s is.stream blocks is.blocks short reads is.reads in
+      subst (λ (x : Stream). first_choice aim.reduce x ≡ Some (unreduced.Choice n p)) one.0 is.cause
+
+  never_irreducible : (s : Stream) (blocks : List Block) (n p : ℕ) → ReadsLeft aim.reduce input s blocks → IsIrreducible aim.reduce input n p → ⊥
+  never_irreducible s blocks n p left is = free_or_choice (first_choice aim.reduce left.whole) n p left.free (choice_here left.whole left.all n p left.reads is)
+
+  same_irreducible : (n p k q : ℕ) → IsIrreducible aim.reduce input n p → IsIrreducible aim.reduce input k q → status.Choice n p ≡ status.Choice k q
+  same_irreducible n p k q x y = one_choice (first_choice aim.reduce x.stream) n p k q x.cause (choice_here x.stream x.blocks k q x.reads y)
+
 module _ (laws : Laws) (aim : Aim) (input : List ℕ) where
   -- what is read whole, and isn't kept from a plan, has no limit
-  never_limit : (s : Stream) (blocks : List Block) (n q : ℕ) → length input ≤ most_bytes → Reads input s blocks → CanBePlanned aim s blocks → Verdict aim input (status.Limit n q) → ⊥
+  never_limit : (s : Stream) (blocks : List Block) (n q : ℕ) → length input ≤ most_bytes → ReadsLeft aim.reduce input s blocks → CanBePlanned aim s blocks → Verdict aim input (status.Limit n q) → ⊥
   never_limit s blocks n q short reads can (inl (inl x)) = omega (arith, x.0, short)
-  never_limit s blocks n q short reads can (inl (inr x)) = reads_on laws input s blocks (fault.Limit n q) short reads x.1
+  never_limit s blocks n q short reads can (inl (inr x)) = left_on laws aim input s blocks (fault.Limit n q) short reads x.1
   never_limit s blocks n q short reads can (inr x) = never_caused laws aim input short s blocks (unplanned.Limit n q) (λ e. cc) reads can x.1
 
   two_limits : (n p k q : ℕ) → Verdict aim input (status.Limit n p) → Verdict aim input (status.Limit k q) → status.Limit n p ≡ status.Limit k q
@@ -247,46 +281,60 @@ module _ (laws : Laws) (aim : Aim) (input : List ℕ) where
   two_limits n p k q (inl (inl x)) (inr y) = absurd (omega (arith, x.0, y.0))
   two_limits n p k q (inl (inr x)) (inl (inl y)) = absurd (omega (arith, x.0, y.0))
   two_limits n p k q (inl (inr x)) (inl (inr y)) = ap told (stops_once laws input (fault.Limit n p) (fault.Limit k q) x.0 x.1 y.1)
-  two_limits n p k q (inl (inr x)) (inr y) = absurd (reads_on laws input y.1.stream y.1.blocks (fault.Limit n p) y.0 y.1.reads x.1)
+  two_limits n p k q (inl (inr x)) (inr y) = absurd (left_on laws aim input y.1.stream y.1.blocks (fault.Limit n p) y.0 y.1.reads x.1)
   two_limits n p k q (inr x) (inl (inl y)) = absurd (omega (arith, x.0, y.0))
-  two_limits n p k q (inr x) (inl (inr y)) = absurd (reads_on laws input x.1.stream x.1.blocks (fault.Limit k q) x.0 x.1.reads y.1)
+  two_limits n p k q (inr x) (inl (inr y)) = absurd (left_on laws aim input x.1.stream x.1.blocks (fault.Limit k q) x.0 x.1.reads y.1)
   two_limits n p k q (inr x) (inr y) = ap told_of (same_cause laws aim input x.0 (unplanned.Limit n p) (unplanned.Limit k q) (λ e. cc) (λ e. cc) x.1 y.1)
 
   rule_and_limit : (n p k q : ℕ) → Verdict aim input (status.Rule n p) → Verdict aim input (status.Limit k q) → ⊥
   rule_and_limit n p k q x (inl (inl y)) = omega (arith, y.0, x.0)
   rule_and_limit n p k q x (inl (inr y)) = let e : fault.Rule n p ≡ fault.Limit k q = stops_once laws input (fault.Rule n p) (fault.Limit k q) x.0 x.1 y.1 in cc
-  rule_and_limit n p k q x (inr y) = reads_on laws input y.1.stream y.1.blocks (fault.Rule n p) y.0 y.1.reads x.1
+  rule_and_limit n p k q x (inr y) = left_on laws aim input y.1.stream y.1.blocks (fault.Rule n p) y.0 y.1.reads x.1
 
   done_and_choice : (n p : ℕ) → Verdict aim input status.Done → Verdict aim input (status.Choice n p) → ⊥
   done_and_choice n p x (short, inl y) = fine_or_long laws aim input short x.1 p x.2 y.1
-  done_and_choice n p x (short, inr y) = never_caused laws aim input short x.2.stream x.2.blocks (unplanned.Choice n p) (λ e. cc) x.2.reads x.2.can y
+  done_and_choice n p x (short, inr (inl y)) = never_caused laws aim input short x.2.stream x.2.blocks (unplanned.Choice n p) (λ e. cc) x.2.reads x.2.can y
+  done_and_choice n p x (short, inr (inr y)) = never_irreducible laws aim input short x.2.stream x.2.blocks n p x.2.reads y
 
   rule_and_choice : (n p k q : ℕ) → Verdict aim input (status.Rule n p) → Verdict aim input (status.Choice k q) → ⊥
-  rule_and_choice n p k q x (short, inl y) = reads_on laws input y.1.stream y.1.blocks (fault.Rule n p) short y.1.reads x.1
-  rule_and_choice n p k q x (short, inr y) = reads_on laws input y.stream y.blocks (fault.Rule n p) short y.reads x.1
+  rule_and_choice n p k q x (short, inl y) = left_on laws aim input y.1.stream y.1.blocks (fault.Rule n p) short y.1.reads x.1
+  rule_and_choice n p k q x (short, inr (inl y)) = left_on laws aim input y.stream y.blocks (fault.Rule n p) short y.reads x.1
+  rule_and_choice n p k q x (short, inr (inr y)) = reads_on laws input y.stream y.blocks (fault.Rule n p) short y.reads x.1
 
   unplanned_and_limit : (n p k q : ℕ) → length input ≤ most_bytes → IsUnplanned aim input (unplanned.Choice n p) → Verdict aim input (status.Limit k q) → ⊥
   unplanned_and_limit n p k q short x (inl (inl y)) = omega (arith, y.0, short)
-  unplanned_and_limit n p k q short x (inl (inr y)) = reads_on laws input x.stream x.blocks (fault.Limit k q) short x.reads y.1
+  unplanned_and_limit n p k q short x (inl (inr y)) = left_on laws aim input x.stream x.blocks (fault.Limit k q) short x.reads y.1
   unplanned_and_limit n p k q short x (inr y) =
       let e : unplanned.Choice n p ≡ unplanned.Limit k q = same_cause laws aim input short (unplanned.Choice n p) (unplanned.Limit k q) (λ e. cc) (λ e. cc) x y.1 in cc
 
+  irreducible_and_limit : (n p k q : ℕ) → length input ≤ most_bytes → IsIrreducible aim.reduce input n p → Verdict aim input (status.Limit k q) → ⊥
+  irreducible_and_limit n p k q short x (inl (inl y)) = omega (arith, y.0, short)
+  irreducible_and_limit n p k q short x (inl (inr y)) = reads_on laws input x.stream x.blocks (fault.Limit k q) short x.reads y.1
+  irreducible_and_limit n p k q short x (inr y) = never_irreducible laws aim input short y.1.stream y.1.blocks n p y.1.reads x
+
   choice_and_limit : (n p k q : ℕ) → Verdict aim input (status.Choice n p) → Verdict aim input (status.Limit k q) → ⊥
   choice_and_limit n p k q (short, inl x) y = never_limit x.1.stream x.1.blocks k q short x.1.reads x.1.can y
-  choice_and_limit n p k q (short, inr x) y = unplanned_and_limit n p k q short x y
+  choice_and_limit n p k q (short, inr (inl x)) y = unplanned_and_limit n p k q short x y
+  choice_and_limit n p k q (short, inr (inr x)) y = irreducible_and_limit n p k q short x y
 
   two_choices : (n p k q : ℕ) → Verdict aim input (status.Choice n p) → Verdict aim input (status.Choice k q) → status.Choice n p ≡ status.Choice k q
   two_choices n p k q (short, inl x) (again, inl y) = rw (x.0, y.0, same_long laws aim input short p q x.1 y.1) refl
-  two_choices n p k q (short, inl x) (again, inr y) = absurd (never_caused laws aim input short x.1.stream x.1.blocks (unplanned.Choice k q) (λ e. cc) x.1.reads x.1.can y)
-  two_choices n p k q (short, inr x) (again, inl y) = absurd (never_caused laws aim input short y.1.stream y.1.blocks (unplanned.Choice n p) (λ e. cc) y.1.reads y.1.can x)
-  two_choices n p k q (short, inr x) (again, inr y) = ap told_of (same_cause laws aim input short (unplanned.Choice n p) (unplanned.Choice k q) (λ e. cc) (λ e. cc) x y)
+  two_choices n p k q (short, inl x) (again, inr (inl y)) = absurd (never_caused laws aim input short x.1.stream x.1.blocks (unplanned.Choice k q) (λ e. cc) x.1.reads x.1.can y)
+  two_choices n p k q (short, inl x) (again, inr (inr y)) = absurd (never_irreducible laws aim input short x.1.stream x.1.blocks k q x.1.reads y)
+  two_choices n p k q (short, inr (inl x)) (again, inl y) = absurd (never_caused laws aim input short y.1.stream y.1.blocks (unplanned.Choice n p) (λ e. cc) y.1.reads y.1.can x)
+  two_choices n p k q (short, inr (inl x)) (again, inr (inl y)) = ap told_of (same_cause laws aim input short (unplanned.Choice n p) (unplanned.Choice k q) (λ e. cc) (λ e. cc) x y)
+  two_choices n p k q (short, inr (inl x)) (again, inr (inr y)) = absurd (never_irreducible laws aim input short x.stream x.blocks k q x.reads y)
+  two_choices n p k q (short, inr (inr x)) (again, inl y) = absurd (never_irreducible laws aim input short y.1.stream y.1.blocks n p y.1.reads x)
+  two_choices n p k q (short, inr (inr x)) (again, inr (inl y)) = absurd (never_irreducible laws aim input short y.stream y.blocks n p y.reads x)
+  two_choices n p k q (short, inr (inr x)) (again, inr (inr y)) = same_irreducible laws aim input short n p k q x y
 
   bad_and_choice : (k n p : ℕ) → Verdict aim input (status.Block k) → Verdict aim input (status.Choice n p) → ⊥
   bad_and_choice k n p x (short, inl y) = one_spoils laws aim input short k p x.1 y.1
-  bad_and_choice k n p x (short, inr y) = never_caused laws aim input short x.1.stream x.1.blocks (unplanned.Choice n p) (λ e. cc) x.1.reads x.1.can y
+  bad_and_choice k n p x (short, inr (inl y)) = never_caused laws aim input short x.1.stream x.1.blocks (unplanned.Choice n p) (λ e. cc) x.1.reads x.1.can y
+  bad_and_choice k n p x (short, inr (inr y)) = never_irreducible laws aim input short x.1.stream x.1.blocks n p x.1.reads y
 
   bad_and_rule : (k n p : ℕ) → Verdict aim input (status.Block k) → Verdict aim input (status.Rule n p) → ⊥
-  bad_and_rule k n p x y = reads_on laws input x.1.stream x.1.blocks (fault.Rule n p) x.0 x.1.reads y.1
+  bad_and_rule k n p x y = left_on laws aim input x.1.stream x.1.blocks (fault.Rule n p) x.0 x.1.reads y.1
 
   bad_and_limit : (k n p : ℕ) → Verdict aim input (status.Block k) → Verdict aim input (status.Limit n p) → ⊥
   bad_and_limit k n p x y = never_limit x.1.stream x.1.blocks n p x.0 x.1.reads x.1.can y
@@ -296,7 +344,7 @@ module _ (laws : Laws) (aim : Aim) (input : List ℕ) where
 
   pub one_verdict : (s t : Status) → Verdict aim input s → Verdict aim input t → s ≡ t
   one_verdict status.Done status.Done x y = refl
-  one_verdict status.Done (status.Rule n q) x y = absurd (reads_on laws input x.2.stream x.2.blocks (fault.Rule n q) x.0 x.2.reads y.1)
+  one_verdict status.Done (status.Rule n q) x y = absurd (left_on laws aim input x.2.stream x.2.blocks (fault.Rule n q) x.0 x.2.reads y.1)
   one_verdict status.Done (status.Limit n q) x y = absurd (never_limit x.2.stream x.2.blocks n q x.0 x.2.reads x.2.can y)
   one_verdict status.Done (status.Choice n q) x y = absurd (done_and_choice n q x y)
   one_verdict status.Done (status.Block k) x y = absurd (bad_and_done k y x)
@@ -305,7 +353,7 @@ module _ (laws : Laws) (aim : Aim) (input : List ℕ) where
   one_verdict status.Done status.ReadFault x y = absurd y
   one_verdict status.Done status.WriteFault x y = absurd y
   one_verdict status.Done status.NoMemory x y = absurd y
-  one_verdict (status.Rule n p) status.Done x y = absurd (reads_on laws input y.2.stream y.2.blocks (fault.Rule n p) y.0 y.2.reads x.1)
+  one_verdict (status.Rule n p) status.Done x y = absurd (left_on laws aim input y.2.stream y.2.blocks (fault.Rule n p) y.0 y.2.reads x.1)
   one_verdict (status.Rule n p) (status.Rule k q) x y = ap told (stops_once laws input (fault.Rule n p) (fault.Rule k q) x.0 x.1 y.1)
   one_verdict (status.Rule n p) (status.Limit k q) x y = absurd (rule_and_limit n p k q x y)
   one_verdict (status.Rule n p) (status.Choice k q) x y = absurd (rule_and_choice n p k q x y)

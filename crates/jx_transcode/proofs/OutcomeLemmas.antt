@@ -50,11 +50,12 @@ long_verdict aim status.NoMemory read input long whole verdict = absurd verdict
 long_cut : (name : Text) (aim : Aim) (read input : List ℕ) (blocks : ℕ) (a b : Meaning) → most_bytes < length read → IsCutShort name aim read blocks a b → IsCutShort name aim input blocks a b
 long_cut name aim read input blocks a b long (inl refused) = inl refused
 long_cut name aim read input blocks a b long (inr (inl over)) = absurd (omega (arith, over.within, long))
-long_cut name aim read input blocks a b long (inr (inr begun)) = absurd (omega (arith, begun.within, long))
+long_cut name aim read input blocks a b long (inr (inr (inl all))) = absurd (omega (arith, all.within, long))
+long_cut name aim read input blocks a b long (inr (inr (inr begun))) = absurd (omega (arith, begun.within, long))
 
-long_limited : (number blocks : ℕ) (read input : List ℕ) → number ≡ 1 → IsLimited read number blocks → IsLimited input number blocks
-long_limited number blocks read input one (inl many) = absurd (omega (arith, many.0, one))
-long_limited number blocks read input one (inr few) = inr few
+long_limited : (d number blocks : ℕ) (read input : List ℕ) → number ≡ 1 → IsLimited d read number blocks → IsLimited d input number blocks
+long_limited d number blocks read input one (inl many) = absurd (omega (arith, many.0, one))
+long_limited d number blocks read input one (inr few) = inr few
 
 long_leaves : (name : Text) (aim : Aim) (s : Status) (read input : List ℕ) (blocks bytes : ℕ) (a b : Meaning) → most_bytes < length read → most_bytes < length input → (IsVerdict s → Verdict aim read s)
     → Leaves name aim read s blocks bytes a b → Leaves name aim input s blocks bytes a b
@@ -63,7 +64,7 @@ long_leaves name aim status.Words read input blocks bytes a b long whole verdict
 long_leaves name aim (status.Unlike how) read input blocks bytes a b long whole verdict leaves = absurd leaves
 long_leaves name aim (status.Rule number place) read input blocks bytes a b long whole verdict leaves = leaves
 long_leaves name aim (status.Limit number found) read input blocks bytes a b long whole verdict leaves =
-    (long_limited number blocks read input (limit_one aim number found read long (verdict tt)) leaves.0, leaves.1)
+    (long_limited aim.reduce number blocks read input (limit_one aim number found read long (verdict tt)) leaves.0, leaves.1)
 long_leaves name aim (status.Choice number place) read input blocks bytes a b long whole verdict leaves = absurd (omega (arith, (verdict tt).0, long))
 long_leaves name aim (status.Block number) read input blocks bytes a b long whole verdict leaves = absurd (omega (arith, (verdict tt).0, long))
 long_leaves name aim status.ReadFault read input blocks bytes a b long whole verdict leaves = leaves
@@ -152,14 +153,14 @@ pub ends_refused : (request : Request) (rule : List ℕ → StreamFacts → Opti
 ends_refused request rule e s blocks bytes tape a b is none empty same = rw (none.0, none.1, empty) (ends_unread request rule s a b (unread_either e s is) same)
 
 -- the parts of a request
-same_request : (r : Request) (from to : Text) (w : Wanted) (work : Work) (kind : FormChoice) → from ≡ r.from → to ≡ r.to → w ≡ r.wanted → work ≡ r.work → kind ≡ r.form
-    → ◌≡◌ {A = Request} (record { from = from; to = to; wanted = w; work = work; form = kind }) r
-same_request r from to w work kind e f h g k = rw (e, f, h, g, k) refl
+same_request : (r : Request) (from to : Text) (w : Wanted) (work : Work) (kind : FormChoice) (d : ℕ) → from ≡ r.from → to ≡ r.to → w ≡ r.wanted → work ≡ r.work → kind ≡ r.form → d ≡ r.reduce
+    → ◌≡◌ {A = Request} (record { from = from; to = to; wanted = w; work = work; form = kind; reduce = d }) r
+same_request r from to w work kind d e f h g k l = rw (e, f, h, g, k, l) refl
 
-pub ends_as : (r : Request) (rule : List ℕ → StreamFacts → Option Rule) (from to : Text) (w : Wanted) (work : Work) (kind : FormChoice) (s : Status) (blocks bytes : ℕ) (tape : List TapeEntry) (old new : Meaning) → from ≡ r.from → to ≡ r.to → w ≡ r.wanted
-    → work ≡ r.work → kind ≡ r.form → EndsFiles (record { from = from; to = to; wanted = w; work = work; form = kind }) rule s blocks bytes tape old new → EndsFiles r rule s blocks bytes tape old new
-ends_as r rule from to w work kind s blocks bytes tape old new e f h g k ends =
-    subst (λ (x : Request). EndsFiles x rule s blocks bytes tape old new) (same_request r from to w work kind e f h g k) ends
+pub ends_as : (r : Request) (rule : List ℕ → StreamFacts → Option Rule) (from to : Text) (w : Wanted) (work : Work) (kind : FormChoice) (d : ℕ) (s : Status) (blocks bytes : ℕ) (tape : List TapeEntry) (old new : Meaning) → from ≡ r.from → to ≡ r.to → w ≡ r.wanted
+    → work ≡ r.work → kind ≡ r.form → d ≡ r.reduce → EndsFiles (record { from = from; to = to; wanted = w; work = work; form = kind; reduce = d }) rule s blocks bytes tape old new → EndsFiles r rule s blocks bytes tape old new
+ends_as r rule from to w work kind d s blocks bytes tape old new e f h g k l ends =
+    subst (λ (x : Request). EndsFiles x rule s blocks bytes tape old new) (same_request r from to w work kind d e f h g k l) ends
 
 -- a run over good words whose line was said, or wasn't
 pub ends_said : (request : Request) (rule : List ℕ → StreamFacts → Option Rule) (s late : Status) (blocks bytes : ℕ) (tape : List TapeEntry) (fault_before fault_now : ℕ) (old new : Meaning) (before now : Option (List ℕ))
@@ -177,7 +178,7 @@ ends_said request rule s late blocks bytes tape fault_before fault_now old new b
       leaves = ends.unsaid not;
       tape = (ends.files.bare not).tape;
       whole = λ done. absurd (undone status.WriteFault tt done);
-      taped = taped_late ends.input s (length tape) (ends.files.bare not).taped;
+      taped = taped_late (aim_of request rule).reduce ends.input s (length tape) (ends.files.bare not).taped;
     };
     jp2 = λ is. jp2_late status.WriteFault (inl refl) request.to request.work request.form (aim_of request rule) ends.input s blocks bytes tape old new (ends.files.jp2 is);
   };
@@ -193,7 +194,7 @@ ends_said request rule s late blocks bytes tape fault_before fault_now old new b
       leaves = ends.unsaid not;
       tape = (ends.files.bare not).tape;
       whole = λ done. absurd (undone status.NoMemory tt done);
-      taped = taped_late ends.input s (length tape) (ends.files.bare not).taped;
+      taped = taped_late (aim_of request rule).reduce ends.input s (length tape) (ends.files.bare not).taped;
     };
     jp2 = λ is. jp2_late status.NoMemory (inr refl) request.to request.work request.form (aim_of request rule) ends.input s blocks bytes tape old new (ends.files.jp2 is);
   };

@@ -22,7 +22,7 @@ use Rattle.jx_transcode.specs.Aims.{Aim, rule_in}
 use Rattle.jx_transcode.specs.Filed.{IsAnswered, blocks_told, told_by, told_of_plan}
 use Rattle.jx_transcode.specs.Judged.{IsInputCause}
 use Rattle.jx_transcode.specs.Outcome.{IsCutShort, most_bytes}
-use Rattle.jx_transcode.specs.Rewritten.{HasBlocks, IsUnplanned, Reads}
+use Rattle.jx_transcode.specs.Rewritten.{HasBlocks, IsUnplanned, Reads, ReadsLeft}
 use Rattle.jx_transcode.specs.declared.status.Status.{Status}
 use Rattle.jx_transcode.specs.declared.status.Status.TheVariants as status
 use Rattle.jx_cli.specs.Words.{Text}
@@ -35,7 +35,7 @@ use Rattle.jx_transcode.proofs.FiledLemmas.{untouched}
 refused_short : (name : Text) (aim : Aim) (input : List ℕ) (mm : Meaning) → IsCutShort name aim input 0 mm mm
 refused_short name aim input mm = inl (refl, untouched mm)
 
-no_plan : (name : Text) (work : Work) (aim : Aim) (input : List ℕ) (mm : Meaning) → IsAnswered name work aim input status.NoMemory 0 0 [] mm mm
+pub no_plan : (name : Text) (work : Work) (aim : Aim) (input : List ℕ) (mm : Meaning) → IsAnswered name work aim input status.NoMemory 0 0 [] mm mm
 no_plan name work aim input mm =
     record { verdict = λ v. absurd v; leaves = refused_short name aim input mm; unsaid = refused_short name aim input mm; tape = inl refl; whole = λ done. absurd (undone status.NoMemory tt done); taped = inl refl }
 
@@ -82,44 +82,50 @@ choice_below : (o : Option Rule) (s : Stream) (blocks : List Block) (w : Wanted)
 unfolding IsBelow
 choice_below o s blocks w number place cause = cause_below o s blocks w (unplanned.Choice number place) cause
 
+not_seven : (o : Option Rule) (s : Stream) (blocks : List Block) (w : Wanted) (number place : ℕ) → HasPlanCause o s blocks w (unplanned.Choice number place) → number ≡ 7 → ⊥
+not_seven o s blocks w number place cause e = omega (arith, e, choice_below o s blocks w number place cause)
+
+below_eight : (o : Option Rule) (s : Stream) (blocks : List Block) (w : Wanted) (number place : ℕ) → HasPlanCause o s blocks w (unplanned.Choice number place) → number < 8
+below_eight o s blocks w number place cause = omega (arith, choice_below o s blocks w number place cause)
+
 pub limit_seven : (o : Option Rule) (s : Stream) (blocks : List Block) (w : Wanted) (number found : ℕ) → HasPlanCause o s blocks w (unplanned.Limit number found) → number ≡ 7
 unfolding IsBelow
 limit_seven o s blocks w number found cause = cause_below o s blocks w (unplanned.Limit number found) cause
 
-is_unplanned : (aim : Aim) (input : List ℕ) (s : Stream) (blocks : List Block) (e : PlanFault) → HasPlanCause (rule_in aim s blocks) s blocks aim.wanted e → Reads input s blocks → IsUnplanned aim input e
+is_unplanned : (aim : Aim) (input : List ℕ) (s : Stream) (blocks : List Block) (e : PlanFault) → HasPlanCause (rule_in aim s blocks) s blocks aim.wanted e → ReadsLeft aim.reduce input s blocks → IsUnplanned aim input e
 is_unplanned aim input s blocks e cause reads = record { stream = s; blocks = blocks; reads = reads; cause = cause }
 
-has_blocks : (input : List ℕ) (s : Stream) (blocks : List Block) (n : ℕ) → n ≡ length blocks → Reads input s blocks → HasBlocks input n
-has_blocks input s blocks n count reads = record { stream = s; blocks = blocks; reads = reads; count_is = count }
+has_blocks : (d : ℕ) (input : List ℕ) (s : Stream) (blocks : List Block) (n : ℕ) → n ≡ length blocks → ReadsLeft d input s blocks → HasBlocks d input n
+has_blocks d input s blocks n count reads = record { stream = s; blocks = blocks; reads = reads; count_is = count }
 
 over_short : (name : Text) (aim : Aim) (input : List ℕ) (s : Stream) (blocks : List Block) (e : PlanFault) (n : ℕ) (mm : Meaning) → (e ≡ unplanned.NoMemory → ⊥) → HasPlanCause (rule_in aim s blocks) s blocks aim.wanted e → n ≡ length blocks
-    → length input ≤ most_bytes → Reads input s blocks → IsCutShort name aim input n mm mm
+    → length input ≤ most_bytes → ReadsLeft aim.reduce input s blocks → IsCutShort name aim input n mm mm
 over_short name aim input s blocks e n mm caused cause count within reads = inr (inl (record {
   within = within;
   why = e;
   is = is_unplanned aim input s blocks e cause reads;
   caused = caused;
-  count = has_blocks input s blocks n count reads;
+  count = has_blocks aim.reduce input s blocks n count reads;
   same = untouched mm;
 }))
 
 pub answered_unplanned : (name : Text) (work : Work) (aim : Aim) (input : List ℕ) (s : Stream) (blocks : List Block) (e : PlanFault) (n : ℕ) (mm : Meaning) → HasPlanCause (rule_in aim s blocks) s blocks aim.wanted e → n ≡ length blocks
-    → length input ≤ most_bytes → Reads input s blocks → IsAnswered name work aim input (told_of_plan e) (blocks_told e n) 0 [] mm mm
+    → length input ≤ most_bytes → ReadsLeft aim.reduce input s blocks → IsAnswered name work aim input (told_of_plan e) (blocks_told e n) 0 [] mm mm
 answered_unplanned name work aim input s blocks (unplanned.Limit number found) n mm cause count within reads = record {
   verdict = λ v. inr (within, is_unplanned aim input s blocks (unplanned.Limit number found) cause reads);
-  leaves = (inl (limit_seven (rule_in aim s blocks) s blocks aim.wanted number found cause, has_blocks input s blocks n count reads), untouched mm);
+  leaves = (inl (limit_seven (rule_in aim s blocks) s blocks aim.wanted number found cause, has_blocks aim.reduce input s blocks n count reads), untouched mm);
   unsaid = over_short name aim input s blocks (unplanned.Limit number found) n mm (λ e. cc) cause count within reads;
   tape = inl refl;
   whole = λ done. absurd (undone (status.Limit number found) tt done);
   taped = refl;
 }
 answered_unplanned name work aim input s blocks (unplanned.Choice number place) n mm cause count within reads = record {
-  verdict = λ v. (within, inr (is_unplanned aim input s blocks (unplanned.Choice number place) cause reads));
-  leaves = inr (choice_below (rule_in aim s blocks) s blocks aim.wanted number place cause, has_blocks input s blocks n count reads, untouched mm);
+  verdict = λ v. (within, inr (inl (is_unplanned aim input s blocks (unplanned.Choice number place) cause reads)));
+  leaves = inr (not_seven (rule_in aim s blocks) s blocks aim.wanted number place cause, inl (below_eight (rule_in aim s blocks) s blocks aim.wanted number place cause, has_blocks aim.reduce input s blocks n count reads), untouched mm);
   unsaid = over_short name aim input s blocks (unplanned.Choice number place) n mm (λ e. cc) cause count within reads;
   tape = inl refl;
   whole = λ done. absurd (undone (status.Choice number place) tt done);
-  taped = inr (choice_below (rule_in aim s blocks) s blocks aim.wanted number place cause, refl);
+  taped = inr (not_seven (rule_in aim s blocks) s blocks aim.wanted number place cause, refl);
 }
 answered_unplanned name work aim input s blocks unplanned.NoMemory n mm cause count within reads = no_plan name work aim input mm
 
@@ -172,7 +178,7 @@ pub reads_of : (input : List ℕ) (s : Stream) (blocks : List Block) → IsRead 
 reads_of input s blocks read totals gathered = record { read = read; totals = totals; gathered = gathered }
 
 -- ---- what is told of an input or a plan is no fault of a device, and doesn't speak of the words
-IsTold : Status → Type 0
+unfoldable pub IsTold : Status → Type 0
 IsTold status.Done = Unit {0}
 IsTold status.Words = ⊥
 IsTold (status.Unlike how) = ⊥
@@ -196,11 +202,11 @@ plan_told (unplanned.Limit number found) = tt
 plan_told (unplanned.Choice number place) = tt
 plan_told unplanned.NoMemory = tt
 
-told_unwritten : (s : Status) → IsTold s → s ≡ status.WriteFault → ⊥
+pub told_unwritten : (s : Status) → IsTold s → s ≡ status.WriteFault → ⊥
 unfolding IsTold
 told_unwritten s told failed = subst IsTold failed told
 
-told_unread : (s : Status) → IsTold s → (s ≡ status.ReadFault → ⊥) × (s ≡ status.Words → ⊥)
+pub told_unread : (s : Status) → IsTold s → (s ≡ status.ReadFault → ⊥) × (s ≡ status.Words → ⊥)
 unfolding IsTold
 told_unread s told = (λ failed. subst IsTold failed told, λ words. subst IsTold words told)
 

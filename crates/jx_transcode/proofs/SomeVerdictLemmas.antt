@@ -24,6 +24,10 @@ use Rattle.jx_plan.specs.Plan.{MayBePlanned, headers_with}
 use Rattle.jx_plan.specs.Planned.{CanBePlannedBy, HasPlanCause, MakesLayers, blocks_written, layers_of_rule}
 use Rattle.jx_plan.specs.Standing.{HeadersStand}
 use Rattle.jx_options.specs.Wanted.{MayBeWanted, Wanted}
+use Rattle.jx_reduce.specs.Reduction.{blocks_left, stream_left}
+use Rattle.jx_reduce.specs.Unreducible.{first_choice}
+use Rattle.jx_reduce.specs.declared.faults.ReduceFault.{ReduceFault}
+use Rattle.jx_reduce.specs.declared.faults.ReduceFault.TheVariants as unreduced
 use Rattle.jx_tier2_writer.specs.Ready.{AreReady, AreShort}
 use Rattle.jx_tier2_writer.specs.TileParts.{AreTilePartsOf, IsOutput}
 use Rattle.jx_transcode.specs.declared.status.Status.{Status}
@@ -31,8 +35,9 @@ use Rattle.jx_transcode.specs.declared.status.Status.TheVariants as status
 use Rattle.jx_transcode.specs.Aims.{Aim, MayBeAimed, rule_in}
 use Rattle.jx_transcode.specs.Judged.{BreaksTiles}
 use Rattle.jx_transcode.specs.Outcome.{Verdict, most_bytes}
-use Rattle.jx_transcode.specs.Rewritten.{CanBePlanned, IsSpoiled, Reads, headers_of}
+use Rattle.jx_transcode.specs.Rewritten.{CanBePlanned, IsSpoiled, Reads, ReadsLeft, headers_of}
 use Rattle.jx_rounds.specs.Tiles.{IsRight}
+use Rattle.jx_transcode.proofs.ReducedLemmas.{never_memory}
 use Rattle.jx_transcode.proofs.ToldLemmas.{stop_told}
 use Rattle.jx_rounds.proofs.FrontLemmas.{tiles_stay}
 use Rattle.jx_transcode.proofs.WrongLemmas.{all_right, first_or_none, right_or_wrong, wrong_or_right}
@@ -43,6 +48,7 @@ pub record Laws : Type 0 where
   pub either : (b : List ℕ) → AreBytes b → ((f : StreamFault) × IsFirst b f) ⊎ ((s : Stream) × IsRead b s)
   pub blocks : (b : List ℕ) (s : Stream) → IsRead b s → length b < 2 ^ 64 → HasBlocks b s ⊎ HasFault b s
   pub may : (b : List ℕ) (s : Stream) (blocks : List Block) → IsRead b s → length b ≤ 2 ^ 28 → totals_fault s ≡ None → IsGathered b s blocks → MayBePlanned s blocks
+  pub left : (d : ℕ) (s : Stream) (blocks : List Block) → MayBePlanned s blocks → first_choice d s ≡ None → MayBePlanned (stream_left d s) (blocks_left d s blocks)
   pub planned : (s : Stream) (blocks : List Block) (w : Wanted) (o : Option Rule) → MayBePlanned s blocks → MayBeWanted w → MakesLayers o s blocks
       → CanBePlannedBy o s blocks w ⊎ ((e : PlanFault) × (e ≡ unplanned.NoMemory → ⊥) × HasPlanCause o s blocks w e)
   pub ready : (w : Wanted) (layers : ℕ) (s : Stream) → 1 ≤ layers → layers < 2 ^ 16 → MayBeWanted w → HeadersStand s → StreamInRange s → totals_fault s ≡ None
@@ -100,7 +106,7 @@ module _ (laws : Laws) (aim : Aim) (may : MayBeAimed aim) (input : List ℕ) (sh
   stopped (fault.Limit number found) cause = (status.Limit number found, inl (inr (short, cause)))
   stopped fault.NoMemory cause = absurd (stop_told input fault.NoMemory cause)
 
-  spoiled_by : (s : Stream) (blocks : List Block) (t : ℕ) → Reads input s blocks → (can : CanBePlanned aim s blocks) → t < tile_number s.siz → IsSpoiled aim.wanted can.by s blocks t
+  spoiled_by : (s : Stream) (blocks : List Block) (t : ℕ) → ReadsLeft aim.reduce input s blocks → (can : CanBePlanned aim s blocks) → t < tile_number s.siz → IsSpoiled aim.wanted can.by s blocks t
       → ((n : ℕ) → n < t → IsSpoiled aim.wanted can.by s blocks n → ⊥) → (st : Status) × Verdict aim input st
   spoiled_by s blocks t reads can inside (inl wrong) lowest =
       (status.Block wrong.0, (short, record { stream = s; blocks = blocks; reads = reads; can = can; tile = t; inside = inside; is = wrong.1; lowest = lowest }))
@@ -111,7 +117,7 @@ module _ (laws : Laws) (aim : Aim) (may : MayBeAimed aim) (input : List ℕ) (sh
   ready : (s : Stream) (blocks : List Block) → MayBePlanned s blocks → (can : CanBePlanned aim s blocks) → AreReady aim.wanted.marks (headers_of aim.wanted can.by s blocks)
   ready s blocks plan can = laws.ready aim.wanted (layers_of_rule can.by s blocks) s can.layers.0 can.layers.1 may.may plan.headers plan.range plan.totals can.free.free
 
-  written : (s : Stream) (blocks : List Block) → Reads input s blocks → MayBePlanned s blocks → CanBePlanned aim s blocks → (st : Status) × Verdict aim input st
+  written : (s : Stream) (blocks : List Block) → ReadsLeft aim.reduce input s blocks → MayBePlanned s blocks → CanBePlanned aim s blocks → (st : Status) × Verdict aim input st
   written s blocks reads plan can =
       let w : Wanted = aim.wanted in
       let r : Rule = can.by in
@@ -140,26 +146,33 @@ module _ (laws : Laws) (aim : Aim) (may : MayBeAimed aim) (input : List ℕ) (sh
             )
       ]
 
-  unplanned_for : (s : Stream) (blocks : List Block) (e : PlanFault) → (e ≡ unplanned.NoMemory → ⊥) → HasPlanCause (rule_in aim s blocks) s blocks aim.wanted e → Reads input s blocks
+  unplanned_for : (s : Stream) (blocks : List Block) (e : PlanFault) → (e ≡ unplanned.NoMemory → ⊥) → HasPlanCause (rule_in aim s blocks) s blocks aim.wanted e → ReadsLeft aim.reduce input s blocks
       → (st : Status) × Verdict aim input st
-  unplanned_for s blocks (unplanned.Choice number place) caused cause reads = (status.Choice number place, (short, inr (record { stream = s; blocks = blocks; reads = reads; cause = cause })))
+  unplanned_for s blocks (unplanned.Choice number place) caused cause reads = (status.Choice number place, (short, inr (inl (record { stream = s; blocks = blocks; reads = reads; cause = cause }))))
   unplanned_for s blocks (unplanned.Limit number found) caused cause reads = (status.Limit number found, inr (short, record { stream = s; blocks = blocks; reads = reads; cause = cause }))
   unplanned_for s blocks unplanned.NoMemory caused cause reads = absurd (caused refl)
 
-  planned : (s : Stream) (blocks : List Block) → Reads input s blocks → (st : Status) × Verdict aim input st
-  planned s blocks reads =
-      let small : length input ≤ 2 ^ 28 = short in
-      let plan : MayBePlanned s blocks = laws.may input s blocks reads.read small reads.totals reads.gathered in
+  planned : (s : Stream) (blocks : List Block) → ReadsLeft aim.reduce input s blocks → MayBePlanned s blocks → (st : Status) × Verdict aim input st
+  planned s blocks reads plan =
       let made : MakesLayers (rule_in aim s blocks) s blocks = makes_layers (rule_in aim s blocks) s blocks (may.layers (facts_of s blocks)) in
       elim (laws.planned s blocks aim.wanted (rule_in aim s blocks) plan may.may made) [
         | inl free ↦ written s blocks reads plan (can_of aim s blocks (rule_in aim s blocks) refl made free)
         | inr why ↦ unplanned_for s blocks why.0 why.1 why.2 reads
       ]
 
+  -- so many resolutions can be left out, or a choice is in the way
+  reduced : (s : Stream) (blocks : List Block) → Reads input s blocks → (o : Option ReduceFault) → first_choice aim.reduce s ≡ o → (st : Status) × Verdict aim input st
+  reduced s blocks reads None free =
+      let small : length input ≤ 2 ^ 28 = short in
+      let plan : MayBePlanned s blocks = laws.may input s blocks reads.read small reads.totals reads.gathered in
+      planned (stream_left aim.reduce s) (blocks_left aim.reduce s blocks) (record { whole = s; all = blocks; reads = reads; free = free; stream = refl; blocks_are = refl }) (laws.left aim.reduce s blocks plan free)
+  reduced s blocks reads (Some (unreduced.Choice number place)) cause = (status.Choice number place, (short, inr (inr (record { stream = s; blocks = blocks; reads = reads; cause = cause }))))
+  reduced s blocks reads (Some unreduced.NoMemory) cause = absurd (never_memory aim.reduce s cause)
+
   gathered : (s : Stream) → IsRead input s → HasBlocks input s ⊎ HasFault input s → (totals_fault s ≡ None) ⊎ ((f : StreamFault) × IsBroken input s f) → (st : Status) × Verdict aim input st
   gathered s read (inr broken) totals = stopped broken.0 (inr (record { stream = s; read = read; broken = broken.1 }))
   gathered s read (inl blocks) (inr broken) = stopped broken.0 (inr (record { stream = s; read = read; broken = broken.1 }))
-  gathered s read (inl blocks) (inl none) = planned s blocks.0 (record { read = read; totals = none; gathered = blocks.1 })
+  gathered s read (inl blocks) (inl none) = reduced s blocks.0 (record { read = read; totals = none; gathered = blocks.1 }) (first_choice aim.reduce s) refl
 
   totals_of : (s : Stream) → (totals_fault s ≡ None) ⊎ ((f : StreamFault) × IsBroken input s f)
   totals_of s = told (totals_fault s) refl

@@ -11,7 +11,7 @@ use Rattle.jx_tile.specs.Totals.{block_total}
 use Rattle.jx_transcode.specs.Aims.{Aim}
 use Rattle.jx_transcode.specs.Jp2Run.{raised}
 use Rattle.jx_transcode.specs.Outcome.{IsVerdict, Verdict, most_bytes}
-use Rattle.jx_transcode.specs.Rewritten.{Reads, round_start}
+use Rattle.jx_transcode.specs.Rewritten.{ReadsLeft, round_start}
 use Rattle.jx_transcode.specs.RunTapes.{IsTapedAfter, IsTapedInPart, IsTapedInRounds, IsTapedToRound}
 use Rattle.jx_transcode.specs.declared.status.Status.{Status}
 use Rattle.jx_transcode.specs.declared.status.Status.TheVariants as status
@@ -56,8 +56,8 @@ to_round s t entries inside is =
     record { tile = round_start s t; inside = omega (arith, inside, start_below (blocks_in_tile s) t); begins = start_begins (blocks_in_tile s) t; count_is = is }
 
 -- so do those of whole rounds of a plan
-pub in_rounds : (input : List ℕ) (p : Plan) (entries : ℕ) → Reads input p.stream p.blocks → length p.blocks ≡ block_total p.stream → EndWithRound p entries → IsTapedInRounds input entries
-in_rounds input p entries reads all is = record {
+pub in_rounds : (d : ℕ) (input : List ℕ) (p : Plan) (entries : ℕ) → ReadsLeft d input p.stream p.blocks → length p.blocks ≡ block_total p.stream → EndWithRound p entries → IsTapedInRounds d input entries
+in_rounds d input p entries reads all is = record {
   stream = p.stream;
   blocks = p.blocks;
   reads = reads;
@@ -73,23 +73,23 @@ in_rounds input p entries reads all is = record {
 }
 
 -- ---- where the line isn't said
-pub taped_late : (input : List ℕ) (s : Status) (entries : ℕ) → IsTapedAfter input s entries → IsTapedInPart input entries
-taped_late input status.Done entries is = inr (record { stream = is.stream; blocks = is.blocks; reads = is.reads; ends = inl is.count_is })
-taped_late input status.Words entries is = inl is
-taped_late input (status.Unlike how) entries is = inl is
-taped_late input (status.Rule number place) entries is = inl is
-taped_late input (status.Limit number found) entries is = inl is
-taped_late input (status.Choice number place) entries (inl seven) =
+pub taped_late : (d : ℕ) (input : List ℕ) (s : Status) (entries : ℕ) → IsTapedAfter d input s entries → IsTapedInPart d input entries
+taped_late d input status.Done entries is = inr (record { stream = is.stream; blocks = is.blocks; reads = is.reads; ends = inl is.count_is })
+taped_late d input status.Words entries is = inl is
+taped_late d input (status.Unlike how) entries is = inl is
+taped_late d input (status.Rule number place) entries is = inl is
+taped_late d input (status.Limit number found) entries is = inl is
+taped_late d input (status.Choice number place) entries (inl seven) =
     inr (record { stream = seven.1.stream; blocks = seven.1.blocks; reads = seven.1.reads; ends = inr (to_round seven.1.stream place entries seven.1.inside seven.1.count_is) })
-taped_late input (status.Choice number place) entries (inr few) = inl few.1
-taped_late input (status.Block number) entries is =
+taped_late d input (status.Choice number place) entries (inr few) = inl few.1
+taped_late d input (status.Block number) entries is =
     inr (record { stream = is.stream; blocks = is.blocks; reads = is.reads; ends = inr (to_round is.stream is.tile entries is.inside is.count_is) })
-taped_late input status.ReadFault entries is = inl is
-taped_late input status.WriteFault entries is = is
-taped_late input status.NoMemory entries is = is
+taped_late d input status.ReadFault entries is = inl is
+taped_late d input status.WriteFault entries is = is
+taped_late d input status.NoMemory entries is = is
 
 -- ---- a front that is too long has no tape
-pub long_taped : (aim : Aim) (s : Status) (read input : List ℕ) (entries : ℕ) → most_bytes < length read → (IsVerdict s → Verdict aim read s) → entries ≡ 0 → IsTapedAfter input s entries
+pub long_taped : (aim : Aim) (s : Status) (read input : List ℕ) (entries : ℕ) → most_bytes < length read → (IsVerdict s → Verdict aim read s) → entries ≡ 0 → IsTapedAfter aim.reduce input s entries
 long_taped aim status.Done read input entries long verdict none = absurd (omega (arith, (verdict tt).0, long))
 long_taped aim status.Words read input entries long verdict none = none
 long_taped aim (status.Unlike how) read input entries long verdict none = none
@@ -102,14 +102,14 @@ long_taped aim status.WriteFault read input entries long verdict none = inl none
 long_taped aim status.NoMemory read input entries long verdict none = inl none
 
 -- ---- a place of a rule that is raised
-pub raised_taped : (input : List ℕ) (from : ℕ) (s : Status) (entries : ℕ) → IsTapedAfter input s entries → IsTapedAfter input (raised from s) entries
-raised_taped input from status.Done entries is = is
-raised_taped input from status.Words entries is = is
-raised_taped input from (status.Unlike how) entries is = is
-raised_taped input from (status.Rule number place) entries is = is
-raised_taped input from (status.Limit number found) entries is = is
-raised_taped input from (status.Choice number place) entries is = is
-raised_taped input from (status.Block number) entries is = is
-raised_taped input from status.ReadFault entries is = is
-raised_taped input from status.WriteFault entries is = is
-raised_taped input from status.NoMemory entries is = is
+pub raised_taped : (d : ℕ) (input : List ℕ) (from : ℕ) (s : Status) (entries : ℕ) → IsTapedAfter d input s entries → IsTapedAfter d input (raised from s) entries
+raised_taped d input from status.Done entries is = is
+raised_taped d input from status.Words entries is = is
+raised_taped d input from (status.Unlike how) entries is = is
+raised_taped d input from (status.Rule number place) entries is = is
+raised_taped d input from (status.Limit number found) entries is = is
+raised_taped d input from (status.Choice number place) entries is = is
+raised_taped d input from (status.Block number) entries is = is
+raised_taped d input from status.ReadFault entries is = is
+raised_taped d input from status.WriteFault entries is = is
+raised_taped d input from status.NoMemory entries is = is

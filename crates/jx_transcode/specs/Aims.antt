@@ -1,5 +1,6 @@
--- What is asked of a codestream: how it is to be written, and the rule by which its coding passes are put into layers.
-use Rattle.std.specs.Prelude.{◌<◌, ◌≤◌, ◌^◌, List, Option, IfSome}
+-- What is asked of a codestream: how it is to be written, how many of its highest resolutions are left out, and the rule by which its coding
+-- passes are put into layers.
+use Rattle.std.specs.Prelude.{◌<◌, ◌≤◌, ◌^◌, ℕ, List, Option, IfSome}
 use Rattle.jx_base.specs.declared.pieces.Block.{Block}
 use Rattle.jx_codestream.specs.declared.Stream.{Stream}
 use Rattle.jx_layers.specs.declared.StreamFacts.{StreamFacts}
@@ -9,10 +10,11 @@ use Rattle.jx_options.specs.Wanted.{MayBeWanted, Wanted}
 
 pub record Aim : Type 0 where
   pub wanted : Wanted
+  pub reduce : ℕ
   -- what the first planner that serves the words of layers makes of them for a stream; nothing where none serves them, or it makes none
   pub rule : StreamFacts → Option Rule
 
--- the rule for a stream with its blocks
+-- the rule for what is left of a stream, with its blocks
 abbrev pub rule_in : Aim → Stream → List Block → Option Rule
 rule_in aim s blocks = aim.rule (facts_of s blocks)
 

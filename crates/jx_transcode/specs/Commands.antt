@@ -1,5 +1,5 @@
 -- The commands that words can name, and what good words of each ask for.
-use Rattle.std.specs.Prelude.{◌≡◌, ℕ, true, false, List, string_bytes}
+use Rattle.std.specs.Prelude.{◌≡◌, ◌≤◌, ℕ, true, false, List, string_bytes}
 use Rattle.jx_options.specs.Wanted.{MayBeWanted}
 use Rattle.jx_options.specs.Work.{MayBeWork}
 use Rattle.jx_cli.specs.BoxesWords.{boxes_of, is_boxes}
@@ -28,7 +28,7 @@ AskNothing words = (is_good words ≡ false) × (is_make words ≡ false) × (is
 
 -- what words can ask for
 abbrev pub MayBeDone : Command → Type 0
-MayBeDone (command.Transcode request) = MayBeWanted request.wanted × MayBeWork request.work
+MayBeDone (command.Transcode request) = MayBeWanted request.wanted × MayBeWork request.work × (request.reduce ≤ 32)
 MayBeDone (command.Make seed width height) = MayBeMade (made_by seed width height)
 MayBeDone (command.Boxes name) = Unit {0}
 MayBeDone (command.Same names) = MayBeCompared names

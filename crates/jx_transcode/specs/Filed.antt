@@ -19,6 +19,8 @@ use Rattle.jx_rounds.specs.declared.halt.Halt.TheVariants as halt
 use Rattle.jx_transcode.specs.declared.status.Status.{Status}
 use Rattle.jx_transcode.specs.declared.status.Status.TheVariants as status
 use Rattle.jx_codestream.specs.declared.faults.StreamFault.{StreamFault}
+use Rattle.jx_reduce.specs.declared.faults.ReduceFault.{ReduceFault}
+use Rattle.jx_reduce.specs.declared.faults.ReduceFault.TheVariants as unreduced
 use Rattle.jx_codestream.specs.declared.faults.StreamFault.TheVariants as fault
 
 pub record IsFileMade (p : Plan) (name : Text) (count : ℕ) (old new : Meaning) : Type 0 where
@@ -48,9 +50,9 @@ pub record IsAnswered (name : Text) (work : Work) (aim : Aim) (input : List ℕ)
   pub verdict : IsVerdict s → Verdict aim input s
   pub leaves : Leaves name aim input s blocks bytes old new
   pub unsaid : IsCutShort name aim input blocks old new
-  pub tape : IsRunTape work input entries
-  pub whole : s ≡ status.Done → HasBlocks input (length entries)
-  pub taped : IsTapedAfter input s (length entries)
+  pub tape : IsRunTape work aim.reduce input entries
+  pub whole : s ≡ status.Done → HasBlocks aim.reduce input (length entries)
+  pub taped : IsTapedAfter aim.reduce input s (length entries)
 
 -- the status of a file that wasn't written to its end
 abbrev pub status_of : Halt → Status
@@ -90,6 +92,15 @@ abbrev pub blocks_told : PlanFault → ℕ → ℕ
 blocks_told (unplanned.Limit number found) blocks = blocks
 blocks_told (unplanned.Choice number place) blocks = blocks
 blocks_told unplanned.NoMemory blocks = 0
+
+-- and of an input out of which so many resolutions can't be left, with the blocks that are told
+abbrev pub told_of_all : ReduceFault → Status
+told_of_all (unreduced.Choice number place) = status.Choice number place
+told_of_all unreduced.NoMemory = status.NoMemory
+
+abbrev pub all_told : ReduceFault → ℕ → ℕ
+all_told (unreduced.Choice number place) blocks = blocks
+all_told unreduced.NoMemory blocks = 0
 
 -- words that are no command, or that couldn't be read
 abbrev pub IsUnread : Status → ℕ → Type 0

@@ -77,7 +77,7 @@ file_in form.Codestream input boxed out = out
 -- what stands where the codestream in a file has the output `out`, and its blocks are told; nothing where it has none
 abbrev pub LeavesAround : Text → FormChoice → Aim → List ℕ → Boxed → List ℕ → Status → ℕ → ℕ → Meaning → Meaning → Type 0
 LeavesAround name kind aim input boxed out s blocks bytes old new =
-    (IsRewritten aim (content input boxed) out × HasBlocks (content input boxed) blocks × LeavesFile name (file_in kind input boxed out) s bytes old new)
+    (IsRewritten aim (content input boxed) out × HasBlocks aim.reduce (content input boxed) blocks × LeavesFile name (file_in kind input boxed out) s bytes old new)
     ⊎ ((s ≡ status.Done → ⊥) × IsUntouched old new)
 
 -- how a run ends on a file with this codestream
@@ -89,9 +89,9 @@ pub record EndsAround (name : Text) (work : Work) (kind : FormChoice) (aim : Aim
   pub out : List ℕ
   pub tells : TellsMade aim (content input boxed) s blocks out
   pub leaves : LeavesAround name kind aim input boxed out s blocks bytes old new
-  pub tape : IsRunTape work (content input boxed) entries
-  pub whole : s ≡ status.Done → HasBlocks (content input boxed) (length entries)
-  pub taped : IsTapedAfter (content input boxed) s (length entries)
+  pub tape : IsRunTape work aim.reduce (content input boxed) entries
+  pub whole : s ≡ status.Done → HasBlocks aim.reduce (content input boxed) (length entries)
+  pub taped : IsTapedAfter aim.reduce (content input boxed) s (length entries)
 
 -- how a run ends that comes to no codestream: nothing is made
 pub record EndsBefore (input : List ℕ) (s : Status) (blocks : ℕ) (entries : List TapeEntry) (old new : Meaning) : Type 0 where

@@ -13,7 +13,7 @@ use Rattle.jx_options.specs.declared.PartChoice.TheVariants as parts
 use Rattle.jx_cli.specs.MakeWords.{Make}
 use Rattle.jx_options.specs.Work.{Work}
 use Rattle.jx_transcode.specs.Aims.{Aim}
-use Rattle.jx_transcode.specs.Outcome.{IsLimited, IsVerdict, Says, Verdict, line_of}
+use Rattle.jx_transcode.specs.Outcome.{IsChosen, IsLimited, IsVerdict, Says, Verdict, line_of}
 use Rattle.jx_transcode.specs.Rewritten.{HasBlocks, IsKept, IsRewritten}
 use Rattle.jx_transcode.specs.RunTapes.{IsRunTape, IsTapedAfter}
 use Rattle.jx_transcode.specs.declared.status.Status.{Status}
@@ -36,7 +36,7 @@ work_made = record { threads = 4; window = 64; most = 2 ^ 28 }
 
 -- with the rule that planners make of the word for layers
 abbrev pub aim_made : (List ℕ → StreamFacts → Option Rule) → Aim
-aim_made rule = record { wanted = wanted_made; rule = rule (codes "one") }
+aim_made rule = record { wanted = wanted_made; reduce = 0; rule = rule (codes "one") }
 
 -- the generated codestream
 abbrev pub input_of : Make → List ℕ
@@ -58,15 +58,15 @@ make_line status.ReadFault blocks before after total = line_of status.ReadFault 
 make_line status.WriteFault blocks before after total = line_of status.WriteFault blocks 0
 make_line status.NoMemory blocks before after total = line_of status.NoMemory blocks 0
 
--- no block is told, or those of the input once it is accepted
-abbrev pub AreTold : List ℕ → ℕ → Type 0
-AreTold input blocks = (blocks ≡ 0) ⊎ HasBlocks input blocks
+-- no block is told, or those that are left of the input once it is accepted, or all of it
+abbrev pub AreTold : ℕ → List ℕ → ℕ → Type 0
+AreTold d input blocks = (blocks ≡ 0) ⊎ (HasBlocks d input blocks ⊎ HasBlocks 0 input blocks)
 
 -- the output, which keeps what a written file keeps
 pub record IsMadeAnew (aim : Aim) (input out : List ℕ) (blocks : ℕ) : Type 0 where
   pub is : IsRewritten aim input out
   pub kept : IsKept aim input out
-  pub count : HasBlocks input blocks
+  pub count : HasBlocks aim.reduce input blocks
 
 -- what each status tells of the blocks, and of the output after Done; no file is read, and the words are good
 abbrev pub TellsMade : Aim → List ℕ → Status → ℕ → List ℕ → Type 0
@@ -74,23 +74,23 @@ TellsMade aim input status.Done blocks out = IsMadeAnew aim input out blocks
 TellsMade aim input status.Words blocks out = ⊥
 TellsMade aim input (status.Unlike how) blocks out = ⊥
 TellsMade aim input (status.Rule number place) blocks out = blocks ≡ 0
-TellsMade aim input (status.Limit number found) blocks out = IsLimited input number blocks
-TellsMade aim input (status.Choice number place) blocks out = HasBlocks input blocks
-TellsMade aim input (status.Block number) blocks out = HasBlocks input blocks
+TellsMade aim input (status.Limit number found) blocks out = IsLimited aim.reduce input number blocks
+TellsMade aim input (status.Choice number place) blocks out = IsChosen aim.reduce input number blocks
+TellsMade aim input (status.Block number) blocks out = HasBlocks aim.reduce input blocks
 TellsMade aim input status.ReadFault blocks out = ⊥
-TellsMade aim input status.WriteFault blocks out = AreTold input blocks
-TellsMade aim input status.NoMemory blocks out = AreTold input blocks
+TellsMade aim input status.WriteFault blocks out = AreTold aim.reduce input blocks
+TellsMade aim input status.NoMemory blocks out = AreTold aim.reduce input blocks
 
 -- how a run comes out, beside what is said and `out`, the output after Done
 pub record ComesOut (m : Make) (rule : List ℕ → StreamFacts → Option Rule) (s : Status) (blocks : ℕ) (out : List ℕ) (entries : List TapeEntry) : Type 0 where
   pub verdict : IsVerdict s → Verdict (aim_made rule) (input_of m) s
   pub tells : TellsMade (aim_made rule) (input_of m) s blocks out
   -- the tape has the entries of the first blocks, in their order, each once, by workers and inside windows that are asked for
-  pub tape : IsRunTape work_made (input_of m) entries
+  pub tape : IsRunTape work_made 0 (input_of m) entries
   -- and those of all blocks after Done
-  pub whole : s ≡ status.Done → HasBlocks (input_of m) (length entries)
+  pub whole : s ≡ status.Done → HasBlocks 0 (input_of m) (length entries)
   -- and how many after each status
-  pub taped : IsTapedAfter (input_of m) s (length entries)
+  pub taped : IsTapedAfter 0 (input_of m) s (length entries)
 
 -- how a run over good words of `make` ends: no file is touched
 pub record EndsMade (m : Make) (rule : List ℕ → StreamFacts → Option Rule) (s : Status) (blocks : ℕ) (entries : List TapeEntry) (old new : Meaning) (before now : Option (List ℕ)) : Type 0 where
@@ -109,6 +109,6 @@ IsLastMade name bytes m = m.written ≡ Some (Some (record { name = name; bytes 
 pub record IsReadyToSay (m : Make) (rule : List ℕ → StreamFacts → Option Rule) (s : Status) (blocks before after total : ℕ) (entries : List TapeEntry) : Type 0 where
   pub out : List ℕ
   pub comes : ComesOut m rule s blocks out entries
-  pub told : AreTold (input_of m) blocks
+  pub told : AreTold 0 (input_of m) blocks
   pub unfailed : s ≡ status.WriteFault → ⊥
   pub numbers : s ≡ status.Done → (before ≡ length (input_of m)) × (after ≡ length out) × (total ≡ sum out)

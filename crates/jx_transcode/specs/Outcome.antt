@@ -8,7 +8,7 @@ use Rattle.jx_transcode.specs.SameLines.{unlike_line, unlike_number}
 use Rattle.jx_transcode.specs.declared.status.Status.{Status}
 use Rattle.jx_cli.specs.Words.{Text}
 use Rattle.jx_rounds.specs.declared.tape.TapeEntry.{TapeEntry}
-use Rattle.jx_transcode.specs.Rewritten.{HasBlocks, IsBad, IsCut, IsCutByBlock, IsFrontOf, IsKept, IsRewritten, IsTooLongAt, IsUnplanned}
+use Rattle.jx_transcode.specs.Rewritten.{HasBlocks, IsBad, IsCut, IsCutByBlock, IsFrontOf, IsIrreducible, IsKept, IsRewritten, IsTooLongAt, IsUnplanned}
 use Rattle.jx_plan.specs.declared.faults.PlanFault.{PlanFault}
 use Rattle.jx_transcode.specs.Aims.{Aim}
 use Rattle.jx_transcode.specs.Progress.{HasWritten}
@@ -53,13 +53,14 @@ PassesLimit input number found =
     ⊎ ((length input ≤ most_bytes) × Passes input number found)
 
 -- the status that an input has where the words are good and nothing fails: limit 1, then the first rule that it violates or limit that it
--- passes in its headers or its tile data, then choice 1, choice 3, choice 2, choice 6, limit 7, choice 4 and choice 5, then tile by tile a
--- block that is coded anew and has a wrong segmentation symbol, and a tile-part that would be too long
+-- passes in its headers or its tile data, then choice 8 and choice 9; then of what is left of it choice 1, choice 3, choice 2, choice 6, limit
+-- 7, choice 4 and choice 5, then tile by tile a block that is coded anew and has a wrong segmentation symbol, and a tile-part that would be
+-- too long
 abbrev pub Verdict : Aim → List ℕ → Status → Type 0
 Verdict aim input status.Done = (length input ≤ most_bytes) × (out : List ℕ) × IsRewritten aim input out
 Verdict aim input (status.Rule number place) = (length input ≤ most_bytes) × Violates input number place
 Verdict aim input (status.Limit number found) = PassesLimit input number found ⊎ ((length input ≤ most_bytes) × IsUnplanned aim input (unplanned.Limit number found))
-Verdict aim input (status.Choice number place) = (length input ≤ most_bytes) × (((number ≡ 7) × IsTooLongAt aim input place) ⊎ IsUnplanned aim input (unplanned.Choice number place))
+Verdict aim input (status.Choice number place) = (length input ≤ most_bytes) × (((number ≡ 7) × IsTooLongAt aim input place) ⊎ (IsUnplanned aim input (unplanned.Choice number place) ⊎ IsIrreducible aim.reduce input number place))
 Verdict aim input (status.Block number) = (length input ≤ most_bytes) × IsBad aim input number
 Verdict aim input status.Words = ⊥
 Verdict aim input (status.Unlike how) = ⊥
@@ -137,7 +138,7 @@ IsRefused blocks old new = (blocks ≡ 0) × IsUntouched old new
 -- the input was accepted, and its output begun
 pub record IsAborted (name : Text) (aim : Aim) (input : List ℕ) (blocks : ℕ) (old new : Meaning) : Type 0 where
   pub within : length input ≤ most_bytes
-  pub count : HasBlocks input blocks
+  pub count : HasBlocks aim.reduce input blocks
   pub stands : LeavesBegun name aim input old new
 
 -- nothing was made of an input that isn't planned
@@ -146,12 +147,21 @@ pub record IsOver (aim : Aim) (input : List ℕ) (blocks : ℕ) (old new : Meani
   pub why : PlanFault
   pub is : IsUnplanned aim input why
   pub caused : why ≡ unplanned.NoMemory → ⊥
-  pub count : HasBlocks input blocks
+  pub count : HasBlocks aim.reduce input blocks
+  pub same : IsUntouched old new
+
+-- nor of one out of which so many resolutions can't be left
+pub record IsOverAll (aim : Aim) (input : List ℕ) (blocks : ℕ) (old new : Meaning) : Type 0 where
+  pub within : length input ≤ most_bytes
+  pub number : ℕ
+  pub place : ℕ
+  pub is : IsIrreducible aim.reduce input number place
+  pub count : HasBlocks 0 input blocks
   pub same : IsUntouched old new
 
 -- nothing was made, or the input was accepted and its output begun
 abbrev pub IsCutShort : Text → Aim → List ℕ → ℕ → Meaning → Meaning → Type 0
-IsCutShort name aim input blocks old new = IsRefused blocks old new ⊎ (IsOver aim input blocks old new ⊎ IsAborted name aim input blocks old new)
+IsCutShort name aim input blocks old new = IsRefused blocks old new ⊎ (IsOver aim input blocks old new ⊎ (IsOverAll aim input blocks old new ⊎ IsAborted name aim input blocks old new))
 
 -- the file was made whole
 pub record IsWhole (name : Text) (aim : Aim) (input : List ℕ) (blocks bytes : ℕ) (old new : Meaning) : Type 0 where
@@ -159,7 +169,7 @@ pub record IsWhole (name : Text) (aim : Aim) (input : List ℕ) (blocks bytes : 
   pub is : IsRewritten aim input out
   pub made : IsMade name out old new
   pub kept : IsKept aim input out
-  pub count : HasBlocks input blocks
+  pub count : HasBlocks aim.reduce input blocks
   pub long : bytes ≡ length out
 
 -- a tile-part was too long: the rounds before its tile's were written
@@ -167,18 +177,22 @@ pub record IsStoppedAt (name : Text) (aim : Aim) (input : List ℕ) (tile blocks
   pub bytes : List ℕ
   pub is : IsCut aim input tile bytes
   pub stopped : IsStopped name bytes old new
-  pub count : HasBlocks input blocks
+  pub count : HasBlocks aim.reduce input blocks
 
 -- a block was wrong: the rounds before that of its tile were written
 pub record IsStoppedByBlock (name : Text) (aim : Aim) (input : List ℕ) (number blocks : ℕ) (old new : Meaning) : Type 0 where
   pub bytes : List ℕ
   pub is : IsCutByBlock aim input number bytes
   pub stopped : IsStopped name bytes old new
-  pub count : HasBlocks input blocks
+  pub count : HasBlocks aim.reduce input blocks
 
 -- limit 7 alone is passed by an input that was accepted
-abbrev pub IsLimited : List ℕ → ℕ → ℕ → Type 0
-IsLimited input number blocks = ((number ≡ 7) × HasBlocks input blocks) ⊎ ((number < 7) × (blocks ≡ 0))
+abbrev pub IsLimited : ℕ → List ℕ → ℕ → ℕ → Type 0
+IsLimited d input number blocks = ((number ≡ 7) × HasBlocks d input blocks) ⊎ ((number < 7) × (blocks ≡ 0))
+
+-- choice 8 and choice 9 are of the whole input, the others of what is left of it
+abbrev pub IsChosen : ℕ → List ℕ → ℕ → ℕ → Type 0
+IsChosen d input number blocks = ((number < 8) × HasBlocks d input blocks) ⊎ ((7 < number) × HasBlocks 0 input blocks)
 
 -- what stands after a status, the blocks that are told, and the bytes of the output after Done
 abbrev pub Leaves : Text → Aim → List ℕ → Status → ℕ → ℕ → Meaning → Meaning → Type 0
@@ -186,9 +200,9 @@ Leaves name aim input status.Done blocks bytes old new = IsWhole name aim input 
 Leaves name aim input status.Words blocks bytes old new = IsRefused blocks old new
 Leaves name aim input (status.Unlike how) blocks bytes old new = ⊥
 Leaves name aim input (status.Rule number place) blocks bytes old new = IsRefused blocks old new
-Leaves name aim input (status.Limit number found) blocks bytes old new = IsLimited input number blocks × IsUntouched old new
+Leaves name aim input (status.Limit number found) blocks bytes old new = IsLimited aim.reduce input number blocks × IsUntouched old new
 Leaves name aim input (status.Choice number place) blocks bytes old new =
-    ((number ≡ 7) × IsStoppedAt name aim input place blocks old new) ⊎ ((number < 7) × HasBlocks input blocks × IsUntouched old new)
+    ((number ≡ 7) × IsStoppedAt name aim input place blocks old new) ⊎ ((number ≡ 7 → ⊥) × IsChosen aim.reduce input number blocks × IsUntouched old new)
 Leaves name aim input (status.Block number) blocks bytes old new = IsStoppedByBlock name aim input number blocks old new
 Leaves name aim input status.ReadFault blocks bytes old new = IsRefused blocks old new
 Leaves name aim input status.WriteFault blocks bytes old new = IsCutShort name aim input blocks old new

@@ -1,5 +1,6 @@
 -- The file to which an input is rewritten: its headers as they are written, and its code-blocks, each kept byte for byte or coded anew in
--- the style that is asked, packed anew in the layers of a rule (ITU-T T.800, A, B and D). And what stands of it where the run ends early.
+-- the style that is asked, packed anew in the layers of a rule (ITU-T T.800, A, B and D); the headers and the code-blocks are those that are left
+-- without the highest resolutions, as many as are asked. And what stands of it where the run ends early.
 use Rattle.std.specs.Prelude.{◌≡◌, ◌<◌, ◌≤◌, ◌+◌, ◌⊎◌, ℕ, false, List, ◌++◌, length, None, Some}
 use Rattle.std.specs.List.{All, flat_map}
 use Rattle.jx_base.specs.declared.pieces.Block.{Block}
@@ -16,6 +17,11 @@ use Rattle.jx_layers.specs.Rule.{Rule}
 use Rattle.jx_plan.specs.Plan.{headers_with}
 use Rattle.jx_plan.specs.Planned.{HasPlanCause, IsFreeBy, MakesLayers, blocks_written, layers_of_rule}
 use Rattle.jx_options.specs.Wanted.{Wanted}
+use Rattle.jx_plan.specs.Meaning.{meaning_of}
+use Rattle.jx_reduce.specs.Left.{IsLeft}
+use Rattle.jx_reduce.specs.Reduction.{blocks_left, stream_left}
+use Rattle.jx_reduce.specs.Unreducible.{first_choice}
+use Rattle.jx_reduce.specs.declared.faults.ReduceFault.TheVariants as unreduced
 use Rattle.jx_tier2_writer.specs.Kept.{IsKeptIn}
 use Rattle.jx_tier2_writer.specs.Ready.{AllShort, AreShort}
 use Rattle.jx_tier2_writer.specs.Tile.{main_bytes}
@@ -28,6 +34,23 @@ pub record Reads (input : List ℕ) (s : Stream) (blocks : List Block) : Type 0 
   pub read : IsRead input s
   pub totals : totals_fault s ≡ None
   pub gathered : IsGathered input s blocks
+
+-- such an input without its d highest resolutions: the stream and the blocks that are left, all with 0
+pub record ReadsLeft (d : ℕ) (input : List ℕ) (s : Stream) (blocks : List Block) : Type 0 where
+  pub whole : Stream
+  pub all : List Block
+  pub reads : Reads input whole all
+  -- neither choice 8 nor choice 9
+  pub free : first_choice d whole ≡ None
+  pub stream : s ≡ stream_left d whole
+  pub blocks_are : blocks ≡ blocks_left d whole all
+
+-- choice 8 or choice 9: so many can't be left out of such an input
+pub record IsIrreducible (d : ℕ) (input : List ℕ) (number place : ℕ) : Type 0 where
+  pub stream : Stream
+  pub blocks : List Block
+  pub reads : Reads input stream blocks
+  pub cause : first_choice d stream ≡ Some (unreduced.Choice number place)
 
 -- the headers that are written, with the layers of a rule
 abbrev pub headers_of : Wanted → Rule → Stream → List Block → Stream
@@ -44,7 +67,7 @@ pub record CanBePlanned (aim : Aim) (s : Stream) (blocks : List Block) : Type 0 
 pub record IsUnplanned (aim : Aim) (input : List ℕ) (why : PlanFault) : Type 0 where
   pub stream : Stream
   pub blocks : List Block
-  pub reads : Reads input stream blocks
+  pub reads : ReadsLeft aim.reduce input stream blocks
   pub cause : HasPlanCause (rule_in aim stream blocks) stream blocks aim.wanted why
 
 -- such a tile that has a tile-part of 2^32 bytes or more
@@ -62,7 +85,7 @@ IsSpoiled w r s blocks t = ((number : ℕ) × IsWrongAt w s blocks t number) ⊎
 pub record IsBad (aim : Aim) (input : List ℕ) (number : ℕ) : Type 0 where
   pub stream : Stream
   pub blocks : List Block
-  pub reads : Reads input stream blocks
+  pub reads : ReadsLeft aim.reduce input stream blocks
   pub can : CanBePlanned aim stream blocks
   pub tile : ℕ
   pub inside : tile < tile_number stream.siz
@@ -73,7 +96,7 @@ pub record IsBad (aim : Aim) (input : List ℕ) (number : ℕ) : Type 0 where
 pub record IsTooLongAt (aim : Aim) (input : List ℕ) (t : ℕ) : Type 0 where
   pub stream : Stream
   pub blocks : List Block
-  pub reads : Reads input stream blocks
+  pub reads : ReadsLeft aim.reduce input stream blocks
   pub can : CanBePlanned aim stream blocks
   pub inside : t < tile_number stream.siz
   pub is : IsLong aim.wanted can.by stream blocks t
@@ -83,7 +106,7 @@ pub record IsTooLongAt (aim : Aim) (input : List ℕ) (t : ℕ) : Type 0 where
 pub record IsRewritten (aim : Aim) (input out : List ℕ) : Type 0 where
   pub stream : Stream
   pub blocks : List Block
-  pub reads : Reads input stream blocks
+  pub reads : ReadsLeft aim.reduce input stream blocks
   pub can : CanBePlanned aim stream blocks
   pub right : All (λ (b : Block). is_wrong aim.wanted.style b ≡ false) blocks
   pub output : IsOutput aim.wanted.marks (headers_of aim.wanted can.by stream blocks) (blocks_written aim.wanted can.by stream blocks) out
@@ -104,7 +127,7 @@ pub record IsFront (w : Wanted) (r : Rule) (s : Stream) (blocks : List Block) (t
 pub record IsFrontOf (aim : Aim) (input bytes : List ℕ) : Type 0 where
   pub stream : Stream
   pub blocks : List Block
-  pub reads : Reads input stream blocks
+  pub reads : ReadsLeft aim.reduce input stream blocks
   pub can : CanBePlanned aim stream blocks
   pub tiles : ℕ
   pub inside : tiles ≤ tile_number stream.siz
@@ -115,7 +138,7 @@ pub record IsFrontOf (aim : Aim) (input bytes : List ℕ) : Type 0 where
 pub record IsCut (aim : Aim) (input : List ℕ) (t : ℕ) (bytes : List ℕ) : Type 0 where
   pub stream : Stream
   pub blocks : List Block
-  pub reads : Reads input stream blocks
+  pub reads : ReadsLeft aim.reduce input stream blocks
   pub can : CanBePlanned aim stream blocks
   pub front : IsFront aim.wanted can.by stream blocks (round_start stream t) bytes
 
@@ -123,29 +146,30 @@ pub record IsCut (aim : Aim) (input : List ℕ) (t : ℕ) (bytes : List ℕ) : T
 pub record IsCutByBlock (aim : Aim) (input : List ℕ) (number : ℕ) (bytes : List ℕ) : Type 0 where
   pub stream : Stream
   pub blocks : List Block
-  pub reads : Reads input stream blocks
+  pub reads : ReadsLeft aim.reduce input stream blocks
   pub can : CanBePlanned aim stream blocks
   pub tile : ℕ
   pub from : first_in_tile stream tile ≤ number
   pub below : number < first_in_tile stream tile + blocks_in_tile stream tile
   pub front : IsFront aim.wanted can.by stream blocks (round_start stream tile) bytes
 
--- how many blocks an input has
-pub record HasBlocks (input : List ℕ) (count : ℕ) : Type 0 where
+-- how many blocks are left of an input without its d highest resolutions; how many it has, with 0
+pub record HasBlocks (d : ℕ) (input : List ℕ) (count : ℕ) : Type 0 where
   pub stream : Stream
   pub blocks : List Block
-  pub reads : Reads input stream blocks
+  pub reads : ReadsLeft d input stream blocks
   pub count_is : count ≡ length blocks
 
--- what the written file keeps: it is a well-formed codestream, and strictly made; it has the input's blocks, each with its name, place,
+-- what the written file keeps: it is a well-formed codestream, and strictly made; it has the blocks that are left, each with its name, place,
 -- planes, zero planes and passes, and with its style and coded bytes where it isn't coded anew, in the layers of the rule; SIZ but for Rsiz;
--- each component's parameters but for the order, the layers, the precincts and the style, and steps; and it means the same; the first layers
--- of a block give its passes their final values
+-- each component's parameters but for the order, the layers, the precincts and the style, and steps; and it means what is left of the input's
+-- meaning, all of it with 0; the first layers of a block give its passes their final values
 pub record IsKept (aim : Aim) (input out : List ℕ) : Type 0 where
   pub before : Stream
   pub after : Stream
   pub blocks : List Block
-  pub reads : Reads input before blocks
+  pub reads : ReadsLeft aim.reduce input before blocks
   pub by : Rule
   pub is : rule_in aim before blocks ≡ Some by
   pub kept : IsKeptIn aim.wanted by before after blocks out
+  pub left : IsLeft aim.reduce (meaning_of reads.whole reads.all) (meaning_of after (blocks_written aim.wanted by before blocks))

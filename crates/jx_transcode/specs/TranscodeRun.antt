@@ -18,18 +18,18 @@ use Rattle.jx_rounds.specs.declared.tape.TapeEntry.{TapeEntry}
 
 -- what good words ask for, with the rule that the planners make of their words of layers
 abbrev pub aim_of : Request → (List ℕ → StreamFacts → Option Rule) → Aim
-aim_of request rule = record { wanted = request.wanted; rule = rule request.wanted.layers }
+aim_of request rule = record { wanted = request.wanted; reduce = request.reduce; rule = rule request.wanted.layers }
 
 -- how a run ends on a codestream
 pub record EndsBare (name : Text) (work : Work) (aim : Aim) (input : List ℕ) (s : Status) (blocks bytes : ℕ) (entries : List TapeEntry) (old new : Meaning) : Type 0 where
   pub verdict : IsVerdict s → Verdict aim input s
   pub leaves : Leaves name aim input s blocks bytes old new
   -- the tape has the entries of the first blocks, in their order, each once, by workers and inside windows that were asked for
-  pub tape : IsRunTape work input entries
+  pub tape : IsRunTape work aim.reduce input entries
   -- and those of all blocks after Done
-  pub whole : s ≡ status.Done → HasBlocks input (length entries)
+  pub whole : s ≡ status.Done → HasBlocks aim.reduce input (length entries)
   -- and how many after each status
-  pub taped : IsTapedAfter input s (length entries)
+  pub taped : IsTapedAfter aim.reduce input s (length entries)
 
 -- how a run over good words ends on an input, which is what the file named IN holds at the beginning, where that is told
 pub record EndsOn (request : Request) (rule : List ℕ → StreamFacts → Option Rule) (input : List ℕ) (s : Status) (blocks bytes : ℕ) (entries : List TapeEntry) (old new : Meaning) : Type 0 where

@@ -183,23 +183,25 @@ fn answer_around<R: Threads + Wait + Sync, G: Gate + Sync, F: Files>(
     to: &str,
     form: FormChoice,
     options: &Options,
+    reduce: u8,
     planners: &mut [Box<dyn LayerPlanner>],
 ) -> Ending
     requires creates { F.can_create files.old to.now }
     requires within { length input.now ≤ most_bytes }
     requires found { IsCodestream input.now boxed.now }
     requires wanted { MayBeWanted options.now }
+    requires few { reduce ≤ 32 }
     requires work { MayBeWork crew.now.work }
-    ensures answer { EndsAround to.now crew.now.work form (record { wanted = options.now; rule = λ facts. chosen (λ b. serves_text b options.now.layers) (λ b. rule_of b options.now.layers facts) planners.old }) input.now boxed.now result.status result.blocks result.bytes result.tape.items (F.meaning files.old) (F.meaning files.new) }
+    ensures answer { EndsAround to.now crew.now.work form (record { wanted = options.now; reduce = reduce; rule = λ facts. chosen (λ b. serves_text b options.now.layers) (λ b. rule_of b options.now.layers facts) planners.old }) input.now boxed.now result.status result.blocks result.bytes result.tape.items (F.meaning files.old) (F.meaning files.new) }
     ensures cause { result.status ≡ Status.WriteFault → Rose (F.write_faults files.old) (F.write_faults files.new) }
     ensures rose { F.write_faults files.old < F.write_faults files.new → result.status ≡ Status.WriteFault }
     ensures read { (result.status ≡ Status.ReadFault → ⊥) × (result.status ≡ Status.Words → ⊥) }
     ensures other { F.read_faults files.new ≡ F.read_faults files.old }
-    ensures misfit { IfSome result.misfit (λ misfit. IsMisfitOf options.now.precincts (content input.now boxed.now) result.status misfit) }
+    ensures misfit { IfSome result.misfit (λ misfit. IsMisfitOf options.now.precincts reduce (content input.now boxed.now) result.status misfit) }
 {
     let inner = content_of(input, boxed);
     let mut made = SureFiles::new(alloc);
-    let ending = answer(crew, alloc, &mut made, inner, "", options, planners);
+    let ending = answer(crew, alloc, &mut made, inner, "", options, reduce, planners);
     match ending.status {
         Status::Done => {
             let out = bytes_made(&made);
@@ -225,25 +227,27 @@ pub fn answer_jp2<R: Threads + Wait + Sync, G: Gate + Sync, F: Files>(
     to: &str,
     form: FormChoice,
     options: &Options,
+    reduce: u8,
     planners: &mut [Box<dyn LayerPlanner>],
 ) -> Ending
     requires creates { F.can_create files.old to.now }
     requires wanted { MayBeWanted options.now }
+    requires few { reduce ≤ 32 }
     requires work { MayBeWork crew.now.work }
-    ensures answer { EndsJp2 to.now crew.now.work form (record { wanted = options.now; rule = λ facts. chosen (λ b. serves_text b options.now.layers) (λ b. rule_of b options.now.layers facts) planners.old }) input.now result.status result.blocks result.bytes result.tape.items (F.meaning files.old) (F.meaning files.new) }
+    ensures answer { EndsJp2 to.now crew.now.work form (record { wanted = options.now; reduce = reduce; rule = λ facts. chosen (λ b. serves_text b options.now.layers) (λ b. rule_of b options.now.layers facts) planners.old }) input.now result.status result.blocks result.bytes result.tape.items (F.meaning files.old) (F.meaning files.new) }
     ensures long { most_bytes < length input.now → result.tape.items ≡ [] }
     ensures cause { result.status ≡ Status.WriteFault → Rose (F.write_faults files.old) (F.write_faults files.new) }
     ensures rose { F.write_faults files.old < F.write_faults files.new → result.status ≡ Status.WriteFault }
     ensures read { (result.status ≡ Status.ReadFault → ⊥) × (result.status ≡ Status.Words → ⊥) }
     ensures other { F.read_faults files.new ≡ F.read_faults files.old }
-    ensures misfit { IfSome result.misfit (λ misfit. IsMisfitOfJp2 options.now.precincts input.now result.status misfit) }
+    ensures misfit { IfSome result.misfit (λ misfit. IsMisfitOfJp2 options.now.precincts reduce input.now result.status misfit) }
 {
     if input.len() >= MOST {
         return Ending::refused(alloc, Status::too_long());
     }
     match find(input) {
         Ok(boxed) => answer_around(
-            crew, alloc, files, input, &boxed, to, form, options, planners,
+            crew, alloc, files, input, &boxed, to, form, options, reduce, planners,
         ),
         Err(BoxFault::Rule { number, place }) => Ending::refused(
             alloc,

@@ -1,5 +1,7 @@
 //! Laws over what becomes of an input. The functions do nothing but cite the laws of the crates below: their contracts carry the laws.
 ghost use Rattle.std.specs.Prelude.{◌≡◌, ◌⊎◌, ◌≤◌, ℕ, List, None, Option, length};
+ghost use Rattle.jx_base.specs.declared.pieces.Block.{Block};
+ghost use Rattle.jx_codestream.specs.declared.Stream.{Stream};
 ghost use Rattle.jx_layers.specs.declared.StreamFacts.{StreamFacts};
 ghost use Rattle.jx_layers.specs.Rule.{Rule};
 ghost use Rattle.jx_marker.specs.Ranges.{AreBytes};
@@ -8,6 +10,9 @@ ghost use Rattle.jx_transcode.specs.BoxesRun.{BoxesVerdict};
 ghost use Rattle.jx_cli.specs.MakeWords.{Make, MayBeMade};
 ghost use Rattle.jx_transcode.specs.declared.status.Status.{Status};
 ghost use Rattle.jx_transcode.specs.declared.status.Status.TheVariants as status;
+ghost use Rattle.jx_transcode.specs.declared.status.Unlike.TheVariants as unlike;
+ghost use Rattle.jx_same.specs.Items.{spot_of_component};
+ghost use Rattle.jx_same.specs.declared.answer.Field.TheVariants as field;
 ghost use Rattle.jx_io.specs.Device.{Meaning};
 ghost use Rattle.jx_cli.specs.Words.{Text};
 ghost use Rattle.jx_jp2.specs.declared.Boxed.{Boxed};
@@ -16,7 +21,7 @@ ghost use Rattle.jx_options.specs.declared.FormChoice.{FormChoice};
 ghost use Rattle.jx_rounds.specs.declared.tape.TapeEntry.{TapeEntry};
 ghost use Rattle.jx_transcode.specs.Jp2Run.{EndsAround, FileVerdict, file_in};
 ghost use Rattle.jx_tile.specs.Totals.{totals_fault};
-ghost use Rattle.jx_transcode.specs.Rewritten.{IsKept, IsRewritten};
+ghost use Rattle.jx_transcode.specs.Rewritten.{IsKept, IsRewritten, Reads, ReadsLeft};
 ghost use Rattle.jx_transcode.specs.SameRun.{HasCodestream, SameVerdict};
 ghost use Rattle.jx_transcode.specs.TranscodeRun.{EndsBare};
 ghost use Rattle.jx_transcode.specs.MadeVerdict.{HasNoRule};
@@ -27,6 +32,7 @@ use jx_codestream::laws::{one_first, one_stream, violated_or_spelled};
 use jx_generate::laws::{made_blocks_are_plain, made_geometry, made_is_short, made_is_well_formed};
 use jx_jp2::laws::{one_codestream, one_tree, some_codestream, some_tree};
 use jx_plan::laws::{gathered_may_be_planned, groups_are_cut, kept_precincts_fit, one_answer};
+use jx_reduce::laws::{left_means, whole_stays};
 use jx_tier2_reader::laws::{never_both, one_gathering, one_of_both, one_violation};
 use jx_tier2_writer::laws::{one_output, written_is_ready};
 
@@ -81,6 +87,7 @@ pub fn some_verdict()
     violated_or_spelled();
     one_of_both();
     gathered_may_be_planned();
+    left_means();
     one_answer();
     written_is_ready();
     one_output();
@@ -121,12 +128,50 @@ pub fn same_has_one_verdict()
     some_file_verdict();
 }
 
-/// What `transcode` wrote of an input is the same as the input under `same`, where it is within the limits, as a codestream or as a JP2 file:
-/// `inner` is the input's codestream, `again` that of the file that was written.
+/// With 0 all that was read of an input is left of it: the headline speaks of the input as it is.
+pub fn all_is_left()
+    ensures left { (input : List ℕ) (s : Stream) (blocks : List Block) → length input ≤ most_bytes → Reads input s blocks → ReadsLeft 0 input s blocks }
+    ensures reads { (input : List ℕ) (s : Stream) (blocks : List Block) → length input ≤ most_bytes → ReadsLeft 0 input s blocks → Reads input s blocks }
+{
+    gathered_may_be_planned();
+    whole_stays();
+}
+
+/// What `transcode` wrote of an input, and left nothing out of, is the same as the input under `same`, where it is within the limits, as a
+/// codestream or as a JP2 file: `inner` is the input's codestream, `again` that of the file that was written.
 pub fn kept_is_same()
-    ensures { (aim : Aim) (input out inner again : List ℕ) (from to : ℕ) (kept : IsKept aim inner again) → length input ≤ most_bytes → length out ≤ most_bytes
+    ensures { (aim : Aim) (input out inner again : List ℕ) (from to : ℕ) (kept : IsKept aim inner again) → aim.reduce ≡ 0 → length input ≤ most_bytes → length out ≤ most_bytes
         → HasCodestream input from inner → HasCodestream out to again → totals_fault kept.after ≡ None → SameVerdict input out status.Done }
-{}
+{
+    gathered_may_be_planned();
+    whole_stays();
+}
+
+/// What `transcode` wrote of an input with fewer resolutions differs from the input under `same` in the subsampling factors of the first
+/// component, where it is within the limits.
+pub fn fewer_differ()
+    ensures { (aim : Aim) (input out inner again : List ℕ) (from to : ℕ) (kept : IsKept aim inner again) → 1 ≤ aim.reduce → length input ≤ most_bytes → length out ≤ most_bytes
+        → HasCodestream input from inner → HasCodestream out to again → totals_fault kept.after ≡ None → SameVerdict input out (status.Unlike (unlike.Differs (spot_of_component 0 0 field.Sampling))) }
+{
+    gathered_may_be_planned();
+    whole_stays();
+}
+
+/// Two files that `transcode` wrote of one codestream without as many resolutions are the same under `same`, where they are within the limits.
+pub fn as_many_are_same()
+    ensures { (aim more : Aim) (input first second one two : List ℕ) (at to : ℕ) (kept : IsKept aim input one) (again : IsKept more input two) → aim.reduce ≡ more.reduce → length input ≤ most_bytes
+        → length first ≤ most_bytes → length second ≤ most_bytes → HasCodestream first at one → HasCodestream second to two → totals_fault kept.after ≡ None → totals_fault again.after ≡ None
+        → SameVerdict first second status.Done }
+{
+    one_stream();
+    one_first();
+    violated_or_spelled();
+    one_violation();
+    one_gathering();
+    never_both();
+    one_answer();
+    one_output();
+}
 
 /// A generated codestream violates no rule, and passes no limit but that on packets of the output.
 pub fn made_is_accepted()
@@ -159,6 +204,7 @@ pub fn made_is_planned()
     made_blocks_are_plain();
     made_geometry();
     gathered_may_be_planned();
+    whole_stays();
     kept_precincts_fit();
     groups_are_cut();
     one_stream();

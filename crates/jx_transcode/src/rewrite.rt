@@ -1,17 +1,19 @@
 //! What becomes of an input whose bytes were read.
 
-ghost use Rattle.std.specs.Prelude.{◌≡◌, ◌<◌, ◌≤◌, ◌^◌, [], length, IfSome, None, Some};
+ghost use Rattle.std.specs.Prelude.{◌≡◌, ◌<◌, ◌≤◌, ◌^◌, ℕ, List, [], length, IfSome, None, Some};
 ghost use Rattle.jx_io.specs.Causes.{Rose};
 ghost use Rattle.jx_codestream.specs.InRange.{StreamInRange};
 ghost use Rattle.jx_codestream.specs.Read.{IsRead};
+ghost use Rattle.jx_plan.specs.Plan.{MayBePlanned};
 ghost use Rattle.jx_plan.specs.Planned.{chosen};
 ghost use Rattle.jx_options.specs.Wanted.{MayBeWanted};
 ghost use Rattle.jx_options.specs.Work.{MayBeWork};
 ghost use Rattle.jx_workers.specs.Told.{anew_in};
-ghost use Rattle.jx_transcode.specs.Filed.{IsAnswered, IsEndOf, blocks_told, status_of, told_by, told_of_plan};
+ghost use Rattle.jx_transcode.specs.Filed.{IsAnswered, IsEndOf, all_told, blocks_told, status_of, told_by, told_of_all, told_of_plan};
 ghost use Rattle.jx_transcode.specs.Jp2Run.{IsPlaced};
 ghost use Rattle.jx_transcode.specs.Misfits.{HasTile, IsMisfitBy, IsMisfitOf};
 ghost use Rattle.jx_transcode.specs.Outcome.{most_bytes};
+ghost use Rattle.jx_transcode.specs.Rewritten.{ReadsLeft};
 
 use crate::Status;
 use crate::device::MOST;
@@ -22,8 +24,10 @@ use jx_codestream::{Stream, StreamFault, read_stream};
 use jx_io::{Files, Gate};
 use jx_layers::{LayerPlanner, shortened};
 use jx_options::Options;
-use jx_plan::laws::{gathered_may_be_planned, plans_write_these_blocks};
+use jx_plan::laws::{gathered_may_be_planned, plans_write_these_blocks, read_headers_stand};
 use jx_plan::{Misfit, PlanFault, first_misfit, plan_served};
+use jx_reduce::ReduceFault;
+use jx_reduce::laws::{left_means, whole_stays};
 use jx_rounds::{Crew, Halt, TapeEntry};
 use jx_tier2_reader::gather;
 use jx_tier2_writer::laws::{one_output, rewritten_is_read};
@@ -184,44 +188,59 @@ fn anew_in(jobs: &[Job<'_>]) -> u32
     count
 }
 
-/// What becomes of the input of a stream: its output is planned and written.
-fn rewrite<R: Threads + Wait + Sync, G: Gate + Sync, F: Files>(
+/// Resolutions that can't be left out of an input with so many code-blocks: choice 8 or choice 9.
+fn unreduced_by(alloc: Global, fault: ReduceFault, blocks: u32) -> Ending
+    ensures status { result.status ≡ told_of_all fault }
+    ensures placed { IsPlaced result.status }
+    ensures blocks { (result.blocks ≡ all_told fault blocks) × (result.bytes ≡ 0) }
+    ensures tape { result.tape.items ≡ [] }
+    ensures misfit { result.misfit ≡ None }
+{
+    match fault {
+        ReduceFault::Choice { number, place } => Ending {
+            status: Status::Choice { number, place },
+            blocks,
+            bytes: 0,
+            tape: Vec::new(alloc),
+            misfit: None,
+        },
+        ReduceFault::NoMemory => Ending::refused(alloc, Status::NoMemory),
+    }
+}
+
+/// What becomes of what is left of an input: its output is planned and written.
+fn rewrite_left<R: Threads + Wait + Sync, G: Gate + Sync, F: Files>(
     crew: &Crew<'_, R, G>,
     alloc: Global,
     files: &mut F,
-    input: &[u8],
     stream: &Stream,
+    blocks: &[Block<'_>],
     to: &str,
     options: &Options,
     planners: &mut [Box<dyn LayerPlanner>],
 ) -> Ending
     requires creates { F.can_create files.old to.now }
-    requires within { length input.now ≤ most_bytes }
-    requires read { IsRead input.now stream.now }
+    requires may { MayBePlanned stream.now blocks.now }
     requires wanted { MayBeWanted options.now }
     requires work { MayBeWork crew.now.work }
-    ensures answer { IsAnswered to.now crew.now.work (record { wanted = options.now; rule = λ facts. chosen (λ b. serves_text b options.now.layers) (λ b. rule_of b options.now.layers facts) planners.old }) input.now result.status result.blocks result.bytes result.tape.items (F.meaning files.old) (F.meaning files.new) }
+    ensures answer { (d : ℕ) (input : List ℕ) → length input ≤ most_bytes → ReadsLeft d input stream.now blocks.now → IsAnswered to.now crew.now.work (record { wanted = options.now; reduce = d; rule = λ facts. chosen (λ b. serves_text b options.now.layers) (λ b. rule_of b options.now.layers facts) planners.old }) input result.status result.blocks result.bytes result.tape.items (F.meaning files.old) (F.meaning files.new) }
     ensures cause { result.status ≡ Status.WriteFault → Rose (F.write_faults files.old) (F.write_faults files.new) }
     ensures rose { F.write_faults files.old < F.write_faults files.new → result.status ≡ Status.WriteFault }
     ensures read { (result.status ≡ Status.ReadFault → ⊥) × (result.status ≡ Status.Words → ⊥) }
     ensures placed { IsPlaced result.status }
     ensures other { F.read_faults files.new ≡ F.read_faults files.old }
-    ensures misfit { IfSome result.misfit (λ misfit. IsMisfitOf options.now.precincts input.now result.status misfit) }
+    ensures misfit { (d : ℕ) (input : List ℕ) → length input ≤ most_bytes → ReadsLeft d input stream.now blocks.now → IfSome result.misfit (λ misfit. IsMisfitOf options.now.precincts d input result.status misfit) }
 {
-    gathered_may_be_planned();
+    read_headers_stand();
     plans_write_these_blocks();
     rewritten_is_read();
+    left_means();
     one_output();
-    let blocks = match gather(alloc, input, stream) {
-        Ok(blocks) => blocks,
-        Err(fault) => return refused_by(alloc, fault),
-    };
-    let read: &[Block<'_>] = &blocks;
-    let plan = match plan_served(alloc, stream, shortened(read), options, planners) {
+    let plan = match plan_served(alloc, stream, shortened(blocks), options, planners) {
         Ok(plan) => plan,
         Err(fault) => {
             let misfit = misfit_of(alloc, stream, options, fault);
-            return unplanned_by(alloc, fault, read.len() as u32, misfit);
+            return unplanned_by(alloc, fault, blocks.len() as u32, misfit);
         }
     };
     let jobs = plan.jobs();
@@ -233,6 +252,52 @@ fn rewrite<R: Threads + Wait + Sync, G: Gate + Sync, F: Files>(
     ending_of(written, count, tape)
 }
 
+/// What becomes of the input of a stream without its `reduce` highest resolutions, 0 to 32. With 0 nothing is copied.
+fn rewrite<R: Threads + Wait + Sync, G: Gate + Sync, F: Files>(
+    crew: &Crew<'_, R, G>,
+    alloc: Global,
+    files: &mut F,
+    input: &[u8],
+    stream: &Stream,
+    to: &str,
+    options: &Options,
+    reduce: u8,
+    planners: &mut [Box<dyn LayerPlanner>],
+) -> Ending
+    requires creates { F.can_create files.old to.now }
+    requires within { length input.now ≤ most_bytes }
+    requires read { IsRead input.now stream.now }
+    requires wanted { MayBeWanted options.now }
+    requires few { reduce ≤ 32 }
+    requires work { MayBeWork crew.now.work }
+    ensures answer { IsAnswered to.now crew.now.work (record { wanted = options.now; reduce = reduce; rule = λ facts. chosen (λ b. serves_text b options.now.layers) (λ b. rule_of b options.now.layers facts) planners.old }) input.now result.status result.blocks result.bytes result.tape.items (F.meaning files.old) (F.meaning files.new) }
+    ensures cause { result.status ≡ Status.WriteFault → Rose (F.write_faults files.old) (F.write_faults files.new) }
+    ensures rose { F.write_faults files.old < F.write_faults files.new → result.status ≡ Status.WriteFault }
+    ensures read { (result.status ≡ Status.ReadFault → ⊥) × (result.status ≡ Status.Words → ⊥) }
+    ensures placed { IsPlaced result.status }
+    ensures other { F.read_faults files.new ≡ F.read_faults files.old }
+    ensures misfit { IfSome result.misfit (λ misfit. IsMisfitOf options.now.precincts reduce input.now result.status misfit) }
+{
+    gathered_may_be_planned();
+    whole_stays();
+    let blocks = match gather(alloc, input, stream) {
+        Ok(blocks) => blocks,
+        Err(fault) => return refused_by(alloc, fault),
+    };
+    let all: &[Block<'_>] = &blocks;
+    if reduce == 0 {
+        return rewrite_left(crew, alloc, files, stream, all, to, options, planners);
+    }
+    match jx_reduce::reduce(alloc, stream, all, reduce) {
+        Ok(left) => {
+            drop(blocks);
+            let few: &[Block<'_>] = &left.1;
+            rewrite_left(crew, alloc, files, &left.0, few, to, options, planners)
+        }
+        Err(fault) => unreduced_by(alloc, fault, all.len() as u32),
+    }
+}
+
 /// What becomes of the bytes that were read, at most `MOST`.
 pub fn answer<R: Threads + Wait + Sync, G: Gate + Sync, F: Files>(
     crew: &Crew<'_, R, G>,
@@ -241,12 +306,14 @@ pub fn answer<R: Threads + Wait + Sync, G: Gate + Sync, F: Files>(
     input: &[u8],
     to: &str,
     options: &Options,
+    reduce: u8,
     planners: &mut [Box<dyn LayerPlanner>],
 ) -> Ending
     requires creates { F.can_create files.old to.now }
     requires wanted { MayBeWanted options.now }
+    requires few { reduce ≤ 32 }
     requires work { MayBeWork crew.now.work }
-    ensures answer { IsAnswered to.now crew.now.work (record { wanted = options.now; rule = λ facts. chosen (λ b. serves_text b options.now.layers) (λ b. rule_of b options.now.layers facts) planners.old }) input.now result.status result.blocks result.bytes result.tape.items (F.meaning files.old) (F.meaning files.new) }
+    ensures answer { IsAnswered to.now crew.now.work (record { wanted = options.now; reduce = reduce; rule = λ facts. chosen (λ b. serves_text b options.now.layers) (λ b. rule_of b options.now.layers facts) planners.old }) input.now result.status result.blocks result.bytes result.tape.items (F.meaning files.old) (F.meaning files.new) }
     // no code-block of an input that is too long
     ensures long { most_bytes < length input.now → result.tape.items ≡ [] }
     ensures cause { result.status ≡ Status.WriteFault → Rose (F.write_faults files.old) (F.write_faults files.new) }
@@ -254,13 +321,15 @@ pub fn answer<R: Threads + Wait + Sync, G: Gate + Sync, F: Files>(
     ensures read { (result.status ≡ Status.ReadFault → ⊥) × (result.status ≡ Status.Words → ⊥) }
     ensures placed { IsPlaced result.status }
     ensures other { F.read_faults files.new ≡ F.read_faults files.old }
-    ensures misfit { IfSome result.misfit (λ misfit. IsMisfitOf options.now.precincts input.now result.status misfit) }
+    ensures misfit { IfSome result.misfit (λ misfit. IsMisfitOf options.now.precincts reduce input.now result.status misfit) }
 {
     if input.len() >= MOST {
         return Ending::refused(alloc, Status::too_long());
     }
     match read_stream(alloc, input) {
-        Ok(stream) => rewrite(crew, alloc, files, input, &stream, to, options, planners),
+        Ok(stream) => rewrite(
+            crew, alloc, files, input, &stream, to, options, reduce, planners,
+        ),
         Err(fault) => refused_by(alloc, fault),
     }
 }

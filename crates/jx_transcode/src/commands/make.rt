@@ -97,7 +97,7 @@ fn transcoded<R: Threads + Wait + Sync, G: Gate + Sync>(
     ensures { IsReadyToSay asked (λ text facts. chosen (λ b. serves_text b text) (λ b. rule_of b text facts) planners.old) result.status result.blocks result.before result.after result.total result.tape.items }
 {
     let mut files = SureFiles::new(alloc);
-    let ending = answer(crew, alloc, &mut files, input, "", options, planners);
+    let ending = answer(crew, alloc, &mut files, input, "", options, 0, planners);
     Made {
         status: ending.status,
         blocks: ending.blocks,

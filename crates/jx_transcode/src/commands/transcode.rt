@@ -48,25 +48,29 @@ fn answer_file<R: Threads + Wait + Sync, G: Gate + Sync, F: Files>(
     to: &str,
     form: FormChoice,
     options: &Options,
+    reduce: u8,
     planners: &mut [Box<dyn LayerPlanner>],
 ) -> Ending
     requires creates { F.can_create files.old to.now }
     requires wanted { MayBeWanted options.now }
+    requires few { reduce ≤ 32 }
     requires work { MayBeWork crew.now.work }
-    ensures bare { (IsJp2 input.now → ⊥) → IsAnswered to.now crew.now.work (record { wanted = options.now; rule = λ facts. chosen (λ b. serves_text b options.now.layers) (λ b. rule_of b options.now.layers facts) planners.old }) input.now result.status result.blocks result.bytes result.tape.items (F.meaning files.old) (F.meaning files.new) }
-    ensures jp2 { IsJp2 input.now → EndsJp2 to.now crew.now.work form (record { wanted = options.now; rule = λ facts. chosen (λ b. serves_text b options.now.layers) (λ b. rule_of b options.now.layers facts) planners.old }) input.now result.status result.blocks result.bytes result.tape.items (F.meaning files.old) (F.meaning files.new) }
+    ensures bare { (IsJp2 input.now → ⊥) → IsAnswered to.now crew.now.work (record { wanted = options.now; reduce = reduce; rule = λ facts. chosen (λ b. serves_text b options.now.layers) (λ b. rule_of b options.now.layers facts) planners.old }) input.now result.status result.blocks result.bytes result.tape.items (F.meaning files.old) (F.meaning files.new) }
+    ensures jp2 { IsJp2 input.now → EndsJp2 to.now crew.now.work form (record { wanted = options.now; reduce = reduce; rule = λ facts. chosen (λ b. serves_text b options.now.layers) (λ b. rule_of b options.now.layers facts) planners.old }) input.now result.status result.blocks result.bytes result.tape.items (F.meaning files.old) (F.meaning files.new) }
     ensures long { most_bytes < length input.now → result.tape.items ≡ [] }
     ensures cause { result.status ≡ Status.WriteFault → Rose (F.write_faults files.old) (F.write_faults files.new) }
     ensures rose { F.write_faults files.old < F.write_faults files.new → result.status ≡ Status.WriteFault }
     ensures read { (result.status ≡ Status.ReadFault → ⊥) × (result.status ≡ Status.Words → ⊥) }
     ensures other { F.read_faults files.new ≡ F.read_faults files.old }
     ensures short { result.status ≡ Status.Done → length input.now ≤ most_bytes }
-    ensures misfit { IfSome result.misfit (λ misfit. IsMisfitOfFile options.now.precincts input.now result.status misfit) }
+    ensures misfit { IfSome result.misfit (λ misfit. IsMisfitOfFile options.now.precincts reduce input.now result.status misfit) }
 {
     if is_jp2(input) {
-        return answer_jp2(crew, alloc, files, input, to, form, options, planners);
+        return answer_jp2(
+            crew, alloc, files, input, to, form, options, reduce, planners,
+        );
     }
-    answer(crew, alloc, files, input, to, options, planners)
+    answer(crew, alloc, files, input, to, options, reduce, planners)
 }
 
 /// Whether boxes that hold positions in the file were kept. `input` was read, and `status` is what became of it.
@@ -126,6 +130,7 @@ pub fn run<R: Threads + Wait + Sync, F: Files, S: Sink, G: Gate + Sync>(
     requires opens { F.can_open files.old request.now.from }
     requires creates { F.can_create files.old request.now.to }
     requires wanted { MayBeWanted request.now.wanted }
+    requires few { request.now.reduce ≤ 32 }
     requires work { MayBeWork request.now.work }
     ensures ends { Ends request.now (λ text facts. chosen (λ b. serves_text b text) (λ b. rule_of b text facts) planners.old) result.status result.blocks result.tape.items (F.meaning files.old) (F.meaning files.new) (S.said say.old) (S.said say.new) }
     ensures read { result.status ≡ Status.ReadFault → Rose (F.read_faults files.old) (F.read_faults files.new) }
@@ -155,6 +160,7 @@ pub fn run<R: Threads + Wait + Sync, F: Files, S: Sink, G: Gate + Sync>(
                 request.to(),
                 form,
                 request.options(),
+                request.reduce(),
                 planners,
             );
             let positions = keeps_positions(form, input, ending.status);

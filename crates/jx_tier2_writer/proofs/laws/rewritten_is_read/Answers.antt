@@ -18,7 +18,6 @@ returns c =
       limits = c.written_headers_are_plain.ensures.limits;
     } in
     let keep : KeepLaws = record {
-      read = c.read_headers_stand.ensures;
       params = c.parameters_stay.ensures.params;
       steps = c.parameters_stay.ensures.steps;
       planes = c.parameters_stay.ensures.planes;

@@ -16,7 +16,7 @@ returns-in-Ok-clause-asks c =
     )
 
 pub returns-in-Ok-clause-may : goal.returns-in-Ok-clause-may
-returns-in-Ok-clause-may c = (c.in-Ok.ensures.wanted, c.in-Ok.ensures.work)
+returns-in-Ok-clause-may c = (c.in-Ok.ensures.wanted, c.in-Ok.ensures.work, c.in-Ok.ensures.reduce)
 
 pub returns-in-Ok-read_make-clause-asks : goal.returns-in-Ok-read_make-clause-asks
 returns-in-Ok-read_make-clause-asks c =

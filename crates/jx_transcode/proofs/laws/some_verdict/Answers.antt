@@ -8,6 +8,7 @@ returns c =
       either = c.violated_or_spelled.ensures.either;
       blocks = c.one_of_both.ensures;
       may = c.gathered_may_be_planned.ensures;
+      left = c.left_means.ensures.may;
       planned = c.one_answer.ensures.some;
       ready = c.written_is_ready.ensures;
       output = c.one_output.ensures.some;
