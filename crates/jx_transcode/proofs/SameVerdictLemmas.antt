@@ -28,7 +28,7 @@ HasOneFile = (aim : Aim) (input : List ℕ) (s t : Status) → FileVerdict aim i
 
 -- a rule or a limit stands in the verdict of any aim
 abbrev pub any_aim : Aim
-any_aim = record { wanted = record { order = None; precincts = None; style = None; layers = []; marks = no_marks }; rule = λ facts. None }
+any_aim = record { wanted = record { order = None; precincts = None; style = None; layers = []; marks = no_marks }; reduce = 0; rule = λ facts. None }
 
 pub inner_short : (input inner : List ℕ) (from : ℕ) → HasCodestream input from inner → length input ≤ most_bytes → length inner ≤ most_bytes
 inner_short input inner from (inl bare) short = rw bare.2 short
