@@ -27,9 +27,9 @@ use std::thread::Threads;
 const TURNS: u64 = 10_000;
 
 /// How often it looks for what has to come: minutes, so a busy machine has started both threads by then.
-const MANY: u64 = 1_000_000_000;
+pub(crate) const MANY: u64 = 1_000_000_000;
 
-const MOST: u32 = 1 << 28;
+pub(crate) const MOST: u32 = 1 << 28;
 
 /// A block that is kept, or coded anew without symbols.
 #[tactic(auto, using(crate::proofs::Samples::asked_whole))]
@@ -100,7 +100,7 @@ fn jobs_of<'a>(
 
 /// What an entry shows.
 #[derive(Clone, Copy, PartialEq, Debug)]
-struct Line {
+pub(crate) struct Line {
     number: u32,
     worker: u32,
     seen: u32,
@@ -166,7 +166,7 @@ fn run_over<R: Threads + Wait + Sync, G: Gate + Sync>(
 }
 
 /// So many jobs by so many threads.
-fn run<R: Threads + Wait + Sync, G: Gate + Sync>(
+pub(crate) fn run<R: Threads + Wait + Sync, G: Gate + Sync>(
     rt: &R,
     alloc: Global,
     count: u32,
@@ -187,7 +187,7 @@ fn run<R: Threads + Wait + Sync, G: Gate + Sync>(
 }
 
 /// Whether a count comes to so many while it is looked at so often.
-fn comes_to(count: &AtomicU64, least: u64, turns: u64) -> bool {
+pub(crate) fn comes_to(count: &AtomicU64, least: u64, turns: u64) -> bool {
     for _ in 0..turns {
         if count.load(SeqCst) >= least {
             return true;
@@ -326,68 +326,6 @@ fn wrong_in_the_middle(rt: HostRuntime) -> Result<(), Fail> {
             equal(&rt, line.made, place != 4);
         }
         equal(&rt, bytes.as_slice(), [0x03; 4].as_slice());
-    }
-    Ok(())
-}
-
-/// Holds the wrong block until so many others have entered, and each of these until the wrong one has left.
-#[derive(Drop)]
-struct Stopping {
-    wrong: u32,
-    others: u64,
-    entered: AtomicU64,
-    left: AtomicU64,
-    missed: AtomicU64,
-}
-
-impl Stopping {
-    fn new(wrong: u32, others: u64) -> Stopping {
-        Stopping {
-            wrong,
-            others,
-            entered: AtomicU64::new(0),
-            left: AtomicU64::new(0),
-            missed: AtomicU64::new(0),
-        }
-    }
-
-    fn hold(&self, until: &AtomicU64, least: u64) {
-        if !comes_to(until, least, MANY) {
-            self.missed.store(1, SeqCst);
-        }
-    }
-}
-
-impl Gate for Stopping {
-    fn begin(&self, _blocks: u32) {}
-
-    fn enter(&self, block: u32) {
-        if block == self.wrong {
-            self.hold(&self.entered, self.others);
-        } else {
-            self.entered.fetch_add(1, SeqCst);
-            self.hold(&self.left, 1);
-        }
-    }
-
-    fn leave(&self, block: u32) {
-        if block == self.wrong {
-            self.left.fetch_add(1, SeqCst);
-        }
-    }
-}
-
-// All workers are inside a block when one of them is found wrong, whichever: none enters another one, of 900.
-#[test]
-fn a_wrong_block_stops_the_others(rt: HostRuntime) -> Result<(), Fail> {
-    for wrong in 0..4_u32 {
-        let gate = Stopping::new(wrong, 3);
-        let limits = (4, 64, MOST);
-        let (lines, _) = given(run(&rt, rt.alloc(), 900, 0, wrong, false, limits, &gate))?;
-        equal(&rt, gate.missed.load(SeqCst), 0);
-        equal(&rt, gate.entered.load(SeqCst), 3);
-        equal(&rt, gate.left.load(SeqCst), 1);
-        equal(&rt, lines.len(), wrong as usize + 1);
     }
     Ok(())
 }

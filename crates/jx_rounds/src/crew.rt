@@ -125,7 +125,8 @@ fn is_bad(entry: &Entry<Recoded<'_>>) -> bool
 {
     match &entry.named {
         Named::Made(_) => false,
-        Named::Bad(_) | Named::Short(_) => true,
+        Named::Bad(_) => true,
+        Named::Short(_) => true,
     }
 }
 

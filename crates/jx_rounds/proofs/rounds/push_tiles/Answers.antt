@@ -1,4 +1,4 @@
-use Rattle.std.proofs.Common.{rules, arith, ◌≡◌, ◌≤◌, ◌+◌, ◌-◌, List, drop, length, refl, take}
+use Rattle.std.proofs.Common.{arith, ◌≤◌, ◌+◌, ◌-◌, List, drop, refl, take}
 use Rattle.jx_rounds.specs.MadeRounds.{parts_of}
 use Rattle.jx_rounds.proofs.ExtentLemmas.{end_whole, entries_at, entries_whole, made_next, made_none, tile_at}
 use Rattle.jx_rounds.proofs.FrontLemmas.{lead_none, unmade_of}
