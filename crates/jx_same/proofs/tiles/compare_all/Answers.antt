@@ -27,7 +27,7 @@ new-requires-in-loop-tile-clause-tile g c =
     subst (λ (n : ℕ). c.loop-tile.tile < n) tiles below
 
 pub compare_tile-requires-clause-known : goal.compare_tile-requires-clause-known
-compare_tile-requires-clause-known g c κs held = λ is.
+compare_tile-requires-clause-known g c κs within = λ is.
     (let a = c.args.a in
     let b = c.args.b in
     let t = c.loop-tile.tile in

@@ -14,7 +14,7 @@ loop-comp-init g c = record {
 
 pub compare_unless-requires-clause-known : goal.compare_unless-requires-clause-known
 unfolding tile_items
-compare_unless-requires-clause-known g c κs held = λ is.
+compare_unless-requires-clause-known g c κs within = λ is.
     (let a = c.args.a.now in
     let b = c.args.b.now in
     let parts = and_parts c.args.known c.is_empty_after-empty.result (sym c.both.ensures ∙ is) in
