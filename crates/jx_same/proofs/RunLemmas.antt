@@ -1,5 +1,5 @@
 -- Lists under numbers, cut into runs.
-use Rattle.std.proofs.Common.{◌≡◌, ◌∙◌, ℕ, zero, suc, ◌+◌, ◌*◌, ◌/◌, ◌%◌, ◌<◌, ◌≤◌, List, ◌++◌, [], ap, sym, refl, add-one, arith, append_assoc, append-nil, inl, inr, Bool, Option, None, Some, Result, Ok, IfOk, get_or, length, min, subst}
+use Rattle.std.proofs.Common.{◌≡◌, ◌∙◌, ℕ, zero, suc, ◌+◌, ◌*◌, ◌/◌, ◌%◌, ◌<◌, ◌≤◌, List, ◌++◌, ap, sym, add-one, arith, append_assoc, append-nil, inl, inr, Bool, Option, None, Some, Result, Ok, IfOk, get_or, length, min, subst}
 use Rattle.std.specs.List.{find, slice_get}
 use Rattle.std.proofs.lemmas.Option.{get_or_from_slice_get, slice_get-get_or, slice_get_within}
 use Rattle.std.proofs.lemmas.Bool.{cases_lt}

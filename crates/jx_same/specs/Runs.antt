@@ -1,5 +1,5 @@
 -- Code-blocks of a band, cut into runs that threads compare one by one.
-use Rattle.std.specs.Prelude.{ℕ, ◌+◌, ◌*◌, ◌<◌, ◌≡◌, Bool, List, find, length, min, Option, Result, IfOk, slice_get, Some}
+use Rattle.std.specs.Prelude.{ℕ, ◌+◌, ◌*◌, ◌≡◌, Bool, List, find, min, Option, Result, IfOk, slice_get, Some}
 use Rattle.jx_base.specs.Joined.{joined}
 
 -- where the run of a number begins: runs of `size` from `low` on below `high`

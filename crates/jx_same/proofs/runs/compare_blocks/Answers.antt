@@ -1,4 +1,4 @@
-use Rattle.std.proofs.Common.{◌≡◌, ◌∙◌, ◌+◌, ◌≤◌, arith, sym}
+use Rattle.std.proofs.Common.{◌∙◌, ◌+◌, ◌≤◌, arith, sym}
 use Rattle.jx_base.specs.Places.{size_of}
 use Rattle.jx_geom.specs.Geometry.{blocks_in}
 use Rattle.jx_same.specs.Items.{block_items, differs}

@@ -1,4 +1,4 @@
-use Rattle.std.proofs.Common.{◌∙◌, ◌<◌, ◌≤◌, sym, arith}
+use Rattle.std.proofs.Common.{◌∙◌, sym, arith}
 use Rattle.jx_same.specs.Items.{block_items, differs}
 use Rattle.jx_same.specs.Sides.{geometry_at, meaning_at}
 use Rattle.jx_same.proofs.BlockLemmas.{aligned_has, none_on_shelf}

@@ -1,4 +1,4 @@
-use Rattle.std.proofs.Common.{◌∙◌, sym}
+use Rattle.std.proofs.Common.{sym}
 use Rattle.jx_same.proofs.FindLemmas.{joined_begins, joined_goes, joined_stops, nothing}
 use Rattle.jx_same.proofs.RunLemmas.{first_at}
 use Rattle.jx_same.proofs.runs.first_found.Goals as goal
