@@ -1,16 +1,15 @@
 -- Headers that say the same of a component give it the same parameters and the same steps (A.6).
-use Rattle.std.proofs.Common.{◌≡◌, ◌∙◌, ◌+◌, ◌-◌, ◌*◌, ◌/◌, ◌%◌, ◌==◌, ◌<◌, ◌≤◌, ℕ, List, [], ◌∷◌, map, length, get_or, drop, ap, refl, sym, subst, arith, Bool, true, false, cond, inl, inr, Option, None, Some}
-use Rattle.std.specs.List.{filter, find, slice_get}
+use Rattle.std.proofs.Common.{◌≡◌, ◌∙◌, ◌+◌, ◌-◌, ◌*◌, ◌/◌, ◌%◌, ◌==◌, ◌<◌, ◌≤◌, ℕ, List, [], ◌∷◌, map, length, ap, refl, sym, subst, Bool, true, false, cond, inl, inr, Option, None, Some}
+use Rattle.std.specs.List.{filter, find}
 use Rattle.std.specs.Option.{option_map, option_or}
 use Rattle.std.proofs.lemmas.Bool.{cases_Bool, eq-eqb, eqb-true}
 use Rattle.jx_base.specs.declared.names.Band.{Band}
-use Rattle.jx_marker.specs.declared.Cod.{Cod}
 use Rattle.jx_marker.specs.declared.Quant.{Quant}
 use Rattle.jx_marker.specs.declared.Segment.{Segment}
 use Rattle.jx_marker.specs.declared.Segment.TheVariants as segment
 use Rattle.jx_codestream.specs.declared.Stream.{Stream}
 use Rattle.jx_codestream.specs.Headers.{slot_of}
-use Rattle.jx_codestream.specs.Params.{chosen, cod_in, cod_of, cod_or, exponent_of, header_of, mantissa_of, number_of, params_by, params_of, quant_in, quant_of, quant_or, shape_in, shape_of, shape_or, shift_in, shift_of, step_by, step_of}
+use Rattle.jx_codestream.specs.Params.{chosen, cod_in, cod_of, cod_or, exponent_of, header_of, mantissa_of, number_of, params_by, params_of, quant_in, quant_of, quant_or, shape_in, shape_of, shape_or, shift_in, shift_of, step_by}
 use Rattle.jx_codestream.specs.Tiles.{in_slot}
 use Rattle.jx_codestream.proofs.KindLemmas.{coc_slot, cod_slot, qcc_slot, qcd_slot, rgn_slot}
 use Rattle.jx_plan.specs.Meaning.{Component, component_of}
