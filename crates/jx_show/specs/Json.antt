@@ -10,30 +10,35 @@ use Rattle.jx_show.specs.declared.fact.Value.{Value}
 use Rattle.jx_show.specs.declared.fact.Value.TheVariants as value
 use Rattle.jx_show.specs.Text.{about_text, is_predictable, name_text, order_word, word_text}
 
-abbrev pub pair_json : ℕ → ℕ → List ℕ
+unfoldable pub pair_json : ℕ → ℕ → List ℕ
 pair_json a b = codes "[" ++ (decimal a ++ (codes ", " ++ (decimal b ++ codes "]")))
 
 abbrev pub holds_json : Bool → List ℕ
 holds_json holds = if holds then codes "true" else codes "false"
 
-abbrev pub word_json : List ℕ → List ℕ
+unfoldable pub word_json : List ℕ → List ℕ
 word_json word = codes "\"" ++ (word ++ codes "\"")
+
+unfoldable pub flag_json : List ℕ → Bool → List ℕ
+flag_json words holds = words ++ holds_json holds
 
 -- the bits of a code-block style (Table A.19)
 abbrev pub style_json : ℕ → List ℕ
 style_json bits =
-    codes "{\"bypass\": " ++ (holds_json (bypasses bits) ++ (codes ", \"reset\": " ++ (holds_json (resets bits)
-    ++ (codes ", \"terminate\": " ++ (holds_json (terminates bits) ++ (codes ", \"causal\": " ++ (holds_json (is_causal bits)
-    ++ (codes ", \"predictable\": " ++ (holds_json (is_predictable bits) ++ (codes ", \"segment\": " ++ (holds_json (has_symbols bits) ++ codes "}")))))))))))
+    flag_json (codes "{\"bypass\": ") (bypasses bits) ++ (flag_json (codes ", \"reset\": ") (resets bits) ++ (flag_json (codes ", \"terminate\": ") (terminates bits)
+    ++ (flag_json (codes ", \"causal\": ") (is_causal bits) ++ (flag_json (codes ", \"predictable\": ") (is_predictable bits)
+    ++ (flag_json (codes ", \"segment\": ") (has_symbols bits) ++ codes "}")))))
 
 -- a progression's components from one on, and below an end, where it isn't 0 for all (A.6.6)
 abbrev pub comps_json : ℕ → ℕ → List ℕ
 comps_json from end = if end == 0 then codes "[" ++ (decimal from ++ codes "]") else pair_json from end
 
+unfoldable pub layers_json : ℕ → List ℕ
+layers_json layers = codes ", \"layers\": " ++ (decimal layers ++ codes ", \"resolutions\": ")
+
 -- its order, layers and resolutions
 abbrev pub order_json : List ℕ → Progression → List ℕ
-order_json order e =
-    codes "{\"order\": " ++ (word_json order ++ (codes ", \"layers\": " ++ (decimal e.lye ++ (codes ", \"resolutions\": " ++ pair_json e.rs e.re))))
+order_json order e = codes "{\"order\": " ++ (word_json order ++ (layers_json e.lye ++ pair_json e.rs e.re))
 
 abbrev pub entry_json : Progression → List ℕ
 entry_json e = order_json (word_text (order_word e.order)) e ++ (codes ", \"components\": " ++ (comps_json e.cs e.ce ++ codes "}"))

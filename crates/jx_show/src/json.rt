@@ -1,7 +1,7 @@
 //! Facts as members of a JSON object (RFC 8259).
 
 ghost use Rattle.std.specs.Prelude.{◌≡◌, ◌++◌, OnOk, string_bytes};
-ghost use Rattle.jx_show.specs.Json.{comps_json, entry_json, fact_json, holds_json, json_of, order_json, pair_json, style_json, value_json, word_json};
+ghost use Rattle.jx_show.specs.Json.{comps_json, entry_json, fact_json, flag_json, holds_json, json_of, layers_json, order_json, pair_json, style_json, value_json, word_json};
 
 use crate::lines::push_about;
 use crate::words::{name_text, order_word, word_text};
@@ -10,6 +10,7 @@ use jx_base::Style;
 use jx_marker::Progression;
 use std::alloc::AllocError;
 
+#[tactic(auto, unfolding(crate::specs::Json::pair_json))]
 fn push_pair(text: &mut String, first: u32, second: u32) -> Result<(), AllocError>
     ensures { OnOk result (string_bytes text.new ≡ string_bytes text.old ++ pair_json first second) }
 {
@@ -22,6 +23,7 @@ fn holds_json(holds: bool) -> &'static str
     if holds { "true" } else { "false" }
 }
 
+#[tactic(auto, unfolding(crate::specs::Json::word_json))]
 fn push_word(text: &mut String, word: &str) -> Result<(), AllocError>
     ensures { OnOk result (string_bytes text.new ≡ string_bytes text.old ++ word_json word.now) }
 {
@@ -29,8 +31,9 @@ fn push_word(text: &mut String, word: &str) -> Result<(), AllocError>
 }
 
 /// Appends words, and whether something holds.
+#[tactic(auto, unfolding(crate::specs::Json::flag_json))]
 fn push_holds(text: &mut String, words: &str, holds: bool) -> Result<(), AllocError>
-    ensures { OnOk result (string_bytes text.new ≡ string_bytes text.old ++ (words.now ++ holds_json holds)) }
+    ensures { OnOk result (string_bytes text.new ≡ string_bytes text.old ++ flag_json words.now holds) }
 {
     text.push_str(words)?;
     text.push_str(holds_json(holds))
@@ -46,7 +49,8 @@ fn push_style(text: &mut String, style: Style) -> Result<(), AllocError>
     push_holds(text, ", \"causal\": ", style.causal())?;
     push_holds(text, ", \"predictable\": ", style.bits / 16 % 2 == 1)?;
     push_holds(text, ", \"segment\": ", style.segmentation())?;
-    text.push_str("}")
+    text.push_str("}")?;
+    Ok(())
 }
 
 fn push_comps(text: &mut String, from: u16, end: u16) -> Result<(), AllocError>
@@ -58,15 +62,21 @@ fn push_comps(text: &mut String, from: u16, end: u16) -> Result<(), AllocError>
     push_pair(text, u32::from(from), u32::from(end))
 }
 
+#[tactic(auto, unfolding(crate::specs::Json::layers_json))]
+fn push_layers(text: &mut String, layers: u16) -> Result<(), AllocError>
+    ensures { OnOk result (string_bytes text.new ≡ string_bytes text.old ++ layers_json layers) }
+{
+    write!(text, ", \"layers\": {layers}, \"resolutions\": ")
+}
+
 /// Appends an order's word, layers and resolutions of an entry.
 fn push_order(text: &mut String, order: &str, entry: Progression) -> Result<(), AllocError>
     ensures { OnOk result (string_bytes text.new ≡ string_bytes text.old ++ order_json order.now entry) }
 {
-    let (lye, rs, re) = (entry.lye, u32::from(entry.rs), u32::from(entry.re));
     text.push_str("{\"order\": ")?;
     push_word(text, order)?;
-    write!(text, ", \"layers\": {lye}, \"resolutions\": ")?;
-    push_pair(text, rs, re)
+    push_layers(text, entry.lye)?;
+    push_pair(text, u32::from(entry.rs), u32::from(entry.re))
 }
 
 /// Appends an entry of a POC segment.

@@ -5,7 +5,7 @@ ghost use Rattle.std.specs.List.{All};
 ghost use Rattle.jx_base.specs.Sound.{IsSound};
 ghost use Rattle.jx_codestream.specs.InRange.{StreamInRange};
 ghost use Rattle.jx_show.specs.Facts.{facts_of};
-ghost use Rattle.jx_show.specs.File.{file_text, json_head, lent_names, lines_head};
+ghost use Rattle.jx_show.specs.File.{boxes_json, file_text, json_head, lent_names, lines_head};
 ghost use Rattle.jx_show.specs.Text.{text_of};
 
 use crate::Fact;
@@ -63,7 +63,7 @@ pub fn show(alloc: Global, stream: &Stream, blocks: &[Block<'_>]) -> Result<Stri
 
 /// Appends what stands before the facts' lines.
 fn push_lines_head(text: &mut String, names: Option<&str>) -> Result<(), AllocError>
-    ensures { OnOk result (string_bytes text.new ≡ string_bytes text.old ++ lines_head (lent_names names)) }
+    ensures { OnOk result (string_bytes text.new ≡ string_bytes text.old ++ lines_head (lent_names names.entry)) }
 {
     match names {
         None => text.push_str("file: codestream\n"),
@@ -71,17 +71,23 @@ fn push_lines_head(text: &mut String, names: Option<&str>) -> Result<(), AllocEr
     }
 }
 
+/// Appends the names of a JP2 file's boxes as a member.
+fn push_boxes(text: &mut String, names: &str) -> Result<(), AllocError>
+    ensures { OnOk result (string_bytes text.new ≡ string_bytes text.old ++ boxes_json names.now) }
+{
+    text.push_str("{\n  \"file\": \"JP2\",\n  \"boxes\": [")?;
+    text.push_str(names)?;
+    text.push_str("]")?;
+    Ok(())
+}
+
 /// Appends what stands before the facts' members.
 fn push_json_head(text: &mut String, names: Option<&str>) -> Result<(), AllocError>
-    ensures { OnOk result (string_bytes text.new ≡ string_bytes text.old ++ json_head (lent_names names)) }
+    ensures { OnOk result (string_bytes text.new ≡ string_bytes text.old ++ json_head (lent_names names.entry)) }
 {
     match names {
         None => text.push_str("{\n  \"file\": \"codestream\""),
-        Some(names) => {
-            text.push_str("{\n  \"file\": \"JP2\",\n  \"boxes\": [")?;
-            text.push_str(names)?;
-            text.push_str("]")
-        }
+        Some(names) => push_boxes(text, names),
     }
 }
 
@@ -92,7 +98,7 @@ fn file_text(
     facts: &[Fact],
     json: bool,
 ) -> Result<String, AllocError>
-    ensures { IfOk result (λ text. string_bytes text ≡ file_text json (lent_names names) facts.now) }
+    ensures { IfOk result (λ text. string_bytes text ≡ file_text json (lent_names names.entry) facts.now) }
 {
     let mut text = String::new(alloc);
     if json {
@@ -121,7 +127,7 @@ pub fn show_file(
 ) -> Result<String, NoMemory>
     requires range { StreamInRange stream.now }
     requires sound { All IsSound blocks.now }
-    ensures { IfOk result (λ text. string_bytes text ≡ file_text json (lent_names names) (facts_of stream.now blocks.now)) }
+    ensures { IfOk result (λ text. string_bytes text ≡ file_text json (lent_names names.entry) (facts_of stream.now blocks.now)) }
 {
     let facts = facts_of(alloc, stream, blocks)?;
     Ok(file_text(alloc, names, &facts, json)?)
