@@ -33,7 +33,7 @@ returns-in-Some g c =
     sym (before p items coefs c.spot_of_component.result here)
 
 pub compare_resolutions-requires-clause-aligned : goal.compare_resolutions-requires-clause-aligned
-compare_resolutions-requires-clause-aligned g c κs held =
+compare_resolutions-requires-clause-aligned g c κs within =
     let a = c.args.a.now in
     let b = c.args.b.now in
     let i = c.args.comp in

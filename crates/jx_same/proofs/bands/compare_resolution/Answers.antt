@@ -9,7 +9,7 @@ use Rattle.jx_same.proofs.FindLemmas.{flat_goes, flat_stops, nothing}
 use Rattle.jx_same.proofs.bands.compare_resolution.Goals as goal
 
 pub compare_band-requires-clause-band : goal.compare_band-requires-clause-band
-compare_band-requires-clause-band g c κs held = record {
+compare_band-requires-clause-band g c κs within = record {
   resolution = c.requires.res;
   band = band_there c.args.res c.of_resolution-bands.result.now c.loop-band.band-index LL c.of_resolution-bands.ensures c.loop-band-test.true;
 }

@@ -10,7 +10,7 @@ pub loop-res-init : goal.loop-res-init
 loop-res-init g c = joined_begins (differs (meaning_at c.args.a.now) (meaning_at c.args.b.now)) (resolution_items (geometry_at c.args.a.now) c.args.comp)
 
 pub compare_resolution-requires-clause-res : goal.compare_resolution-requires-clause-res
-compare_resolution-requires-clause-res g c κs held =
+compare_resolution-requires-clause-res g c κs within =
     let a = c.args.a.now in
     let level : c.loop-res.res ≤ (shape_of (geometry_at a) c.args.comp).levels = omega (arith, c.loop-res-test.true, c.requires.levels) in
     record { component = subst (λ (n : ℕ). c.args.comp < n) (sym (shapes_length a.stream a.tile)) c.requires.comp; level = level }

@@ -18,7 +18,7 @@ returns-in-Some g c =
     sym (before p (picture_items s.siz) (joined (tile_items s) 0 (tile_number s.siz)) c.in-Some.spot (sym c.compare_pictures.ensures ∙ c.in-Some.is))
 
 pub compare_tiles-requires-clause-siz : goal.compare_tiles-requires-clause-siz
-compare_tiles-requires-clause-siz g c κs held =
+compare_tiles-requires-clause-siz g c κs within =
     let a = c.args.a in
     let b = c.args.b in
     siz_one a.stream.now b.stream.now a.blocks.now b.blocks.now
