@@ -1,10 +1,11 @@
 #!/usr/bin/env python3
 """Times the program on files of many tiles and components without samples, some with tile headers of their own.
 
-usage: bench/tiles.py [--short] PROGRAM [PROGRAM ..]
+usage: bench/tiles.py [--short] [--same] PROGRAM [PROGRAM ..]
 
 Makes the files in a temporary folder, runs each program on each of them in turn (`PROGRAM transcode IN OUT --sop`), three times
-each, and prints the medians of processor seconds and the most memory of a run. --short leaves the largest files out. A run may take 600 s.
+each, and prints the medians of processor seconds and the most memory of a run. With --same each is compared with itself in place of that,
+and with files whose headers say the same in other segments. --short leaves the largest files out. A run may take 600 s.
 Only Python's standard library is needed.
 """
 
@@ -42,8 +43,12 @@ def rgn(comps, comp):
     return segment(0x5E, struct.pack(">H" if comps > 256 else ">B", comp) + bytes([0, 0]))
 
 
-def codestream(tiles, factors, levels, own, data=b""):
-    head = siz(tiles, factors) + cod(levels) + qcd(levels)
+def coc(comps, comp, levels):
+    return segment(0x53, struct.pack(">H" if comps > 256 else ">B", comp) + bytes([1, levels, 4, 4, 0, 1]) + bytes([0x55]) * (levels + 1))
+
+
+def codestream(tiles, factors, levels, own, data=b"", more=b""):
+    head = siz(tiles, factors) + cod(levels) + qcd(levels) + more
     parts = []
     for tile in range(tiles):
         header = own(tile)
@@ -88,12 +93,31 @@ FILES = [
 ]
 
 
-def run(program, source, target):
+def deep(tiles, comps):
+    return codestream(tiles, [255] * comps, LEVELS, lambda tile: b"")
+
+
+def with_coc(tiles, comps):
+    """The same regions, beside a COC in the main header that says what COD says."""
+    return codestream(tiles, [255] * comps, LEVELS, lambda tile: rgn(comps, tile % comps), more=coc(comps, 0, LEVELS))
+
+
+def coding_and_regions(tiles, comps):
+    return codestream(tiles, [255] * comps, LEVELS, lambda tile: cod(LEVELS) + rgn(comps, tile % comps))
+
+
+# what is compared beside each file with itself: two files that say the same
+PAIRS = [
+    ("4,096 by 4,096, an RGN in each tile's header, each of another component; a COC in one main header", own_regions, with_coc, 4096, 4096),
+    ("1,024 by 1,024, a COD in each tile's header of one", own_coding, deep, 1024, 1024),
+    ("1,024 by 1,024, an RGN in each tile's header, each of another component, with a COD in one", coding_and_regions, own_regions, 1024, 1024),
+]
+
+
+def run(words):
     """Processor seconds, the most memory in KiB, and what was said."""
     before = resource.getrusage(resource.RUSAGE_CHILDREN)
-    process = subprocess.Popen(
-        [program, "transcode", source, target, "--sop"], stdin=subprocess.DEVNULL, stdout=subprocess.PIPE, stderr=subprocess.STDOUT
-    )
+    process = subprocess.Popen(words, stdin=subprocess.DEVNULL, stdout=subprocess.PIPE, stderr=subprocess.STDOUT)
     end = time.monotonic() + MOST_SECONDS
     try:
         said, _ = process.communicate(timeout=max(1, end - time.monotonic()))
@@ -106,32 +130,45 @@ def run(program, source, target):
     return seconds, after.ru_maxrss, said.decode(errors="replace").strip()
 
 
+def measure(programs, words):
+    """Runs each program with these words three times, once where it takes long."""
+    for program in programs:
+        runs = []
+        for _ in range(3):
+            runs.append(run([program, *words]))
+            if runs[-1][0] > 20:
+                break
+        seconds = sorted(one[0] for one in runs)[len(runs) // 2]
+        memory = max(one[1] for one in runs)
+        said = runs[0][2].splitlines()[0] if runs[0][2] else ""
+        print(f"    {seconds:8.3f} s  {memory:9,} KiB so far  {program}: {said}", flush=True)
+
+
+def write(path, data):
+    with open(path, "wb") as file:
+        file.write(data)
+    return path
+
+
 def main():
     words = sys.argv[1:]
-    short = "--short" in words
-    programs = [word for word in words if word != "--short"]
+    programs = [word for word in words if word not in ("--short", "--same")]
     if not programs:
         sys.exit(__doc__)
     with tempfile.TemporaryDirectory() as folder:
         source = os.path.join(folder, "in.j2k")
         target = os.path.join(folder, "out.j2k")
         for name, make, large in FILES:
-            if large and short:
+            if large and "--short" in words:
                 continue
-            data = make()
-            with open(source, "wb") as file:
-                file.write(data)
-            print(f"{name}; {len(data):,} bytes")
-            for program in programs:
-                runs = []
-                for _ in range(3):
-                    runs.append(run(program, source, target))
-                    if runs[-1][0] > 20:
-                        break
-                seconds = sorted(one[0] for one in runs)[len(runs) // 2]
-                memory = max(one[1] for one in runs)
-                said = runs[0][2].splitlines()[0] if runs[0][2] else ""
-                print(f"    {seconds:8.3f} s  {memory:9,} KiB so far  {program}: {said}", flush=True)
+            write(source, make())
+            print(f"{name}; {os.path.getsize(source):,} bytes")
+            measure(programs, ["same", source, source] if "--same" in words else ["transcode", source, target, "--sop"])
+        for name, make, other, tiles, comps in PAIRS if "--same" in words else []:
+            write(source, make(tiles, comps))
+            write(target, other(tiles, comps))
+            print(f"{name}; {os.path.getsize(source):,} and {os.path.getsize(target):,} bytes")
+            measure(programs, ["same", source, target])
 
 
 if __name__ == "__main__":

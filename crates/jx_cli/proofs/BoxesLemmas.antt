@@ -55,19 +55,3 @@ words_named name = name_found name
 
 pub has_boxes_words : (name : Text) → AsksBoxes name
 has_boxes_words name = record { words = [] ∷ words_for name; good = words_good name; named = words_named name }
-
--- ---- no words are good for this command and another
-pub not_named : (word other name : Text) → bytes_eq other name ≡ false → bytes_eq word other ≡ true → bytes_eq word name ≡ false
-not_named word other name apart t = subst (λ (w : Text). bytes_eq w name ≡ false) (sym ((bytes_eq-Decides word other).0 t)) apart
-
-pub transcode_apart : (words : List Text) → is_good words ≡ true → is_boxes words ≡ false
-unfolding is_good is_boxes
-transcode_apart words good =
-    let named : names_command words ≡ true = (and_parts (names_command words) _ good).0 in
-    rw (not_named (slice_index_or words 1 []) (codes "transcode") (codes "boxes") refl named) refl
-
-pub make_apart : (words : List Text) → is_make words ≡ true → is_boxes words ≡ false
-unfolding is_make is_boxes
-make_apart words good =
-    let named : names_make words ≡ true = (and_parts (names_make words) _ good).0 in
-    rw (not_named (slice_index_or words 1 []) (codes "make") (codes "boxes") refl named) refl

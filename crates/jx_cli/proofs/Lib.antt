@@ -1,3 +1,4 @@
+mod ApartLemmas
 mod BoxesLemmas
 mod CommandLemmas
 mod CommandWordLemmas
@@ -5,4 +6,5 @@ mod GoodLemmas
 mod MadeLemmas
 mod MakeLemmas
 mod SameLemmas
+mod ShowLemmas
 mod WantedLemmas

@@ -127,13 +127,3 @@ words_made m may =
 
 pub has_make_words : (m : Make) → MayBeMade m → AsksMake m
 has_make_words m may = record { words = [] ∷ words_for m; good = words_good m may; made = words_made m may }
-
--- ---- no words are good for this command and `transcode`
-no_make : (word : Text) → bytes_eq word (codes "transcode") ≡ true → bytes_eq word (codes "make") ≡ false
-no_make word t = subst (λ (w : Text). bytes_eq w (codes "make") ≡ false) (sym ((bytes_eq-Decides word (codes "transcode")).0 t)) refl
-
-pub apart : (words : List Text) → is_good words ≡ true → is_make words ≡ false
-unfolding is_good is_make
-apart words good =
-    let named : names_command words ≡ true = (and_parts (names_command words) _ good).0 in
-    rw (no_make (slice_index_or words 1 []) named) refl

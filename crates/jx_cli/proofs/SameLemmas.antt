@@ -1,81 +1,84 @@
 -- Words of `same`, and what they ask for.
-use Rattle.std.proofs.Common.{◌≡◌, ◌∙◌, ap, refl, true, false, List, [], ◌∷◌, Option, codes, slice_index_or}
-use Rattle.std.specs.Str.{bytes_eq}
-use Rattle.std.proofs.lemmas.Bool.{and_parts}
+use Rattle.std.proofs.Common.{◌≡◌, ◌≤◌, ◌∙◌, ap, sym, refl, arith, ℕ, true, false, Bool, List, [], ◌∷◌, ◌++◌, Option, Some, is_some, codes, drop}
+use Rattle.std.specs.Fmt.{decimal}
 use Rattle.clap.specs.Words.{App, fault_of, is_simple_and_free}
 use Rattle.clap.proofs.OnLiterals.{clap_on_literals}
-use Rattle.jx_cli.specs.BoxesWords.{is_boxes, names_boxes}
-use Rattle.jx_cli.specs.Command.{with_place}
+use Rattle.jx_cli.specs.Command.{with_option, with_place}
 use Rattle.jx_cli.specs.MakeFound.{texts_of, under}
-use Rattle.jx_cli.specs.MakeWords.{is_make, names_make}
-use Rattle.jx_cli.specs.SameWords.{AsksSame, Pair, is_same, is_taken, named_in, pair_in, same, same_of}
-use Rattle.jx_cli.specs.Words.{Text, is_good, names_command}
-use Rattle.jx_cli.proofs.BoxesLemmas.{no_fault, not_named, some_fault}
-use Rattle.jx_cli.proofs.CommandLemmas.{none_moved, some_moved, texts_moved}
+use Rattle.jx_cli.specs.SameWords.{AsksSame, MayBeCompared, Pair, is_asked, is_same, is_taken, pair_by, same, same_of, threads_in}
+use Rattle.jx_cli.specs.Words.{Text, said_of}
+use Rattle.jx_options.specs.declared.names.OptionName.TheVariants as option
+use Rattle.jx_options.specs.Names.{threads_said}
+use Rattle.jx_options.proofs.NumberLemmas.{number_spelled}
+use Rattle.jx_cli.proofs.BoxesLemmas.{no_fault}
+use Rattle.jx_cli.proofs.CommandLemmas.{asked_by, none_moved, some_moved, texts_moved, unasked_by}
+use Rattle.jx_cli.proofs.WantedLemmas.{number_within}
 
 pub same_free : is_simple_and_free same ≡ true
-unfolding clap_on_literals same with_place
+unfolding clap_on_literals same with_option with_place
 same_free = refl
 
 -- ---- what clap says of the words, by what the command is
-pub taken : (a : App) (words : List Text) → a ≡ same → fault_of a words ≡ [] → is_taken words ≡ true
-taken a words is none = no_fault (fault_of same words) (none_moved a same words is none)
+pub asked : (a : App) (words : List Text) (found : Text → Option Text) (b : Bool) → a ≡ same → fault_of a words ≡ [] → found ≡ texts_of a words → is_some (threads_in found) ≡ b → is_asked words ≡ b
+asked a words found b is none same_texts said =
+    asked_by (fault_of same words) (is_some (threads_in (texts_of same words))) b (none_moved a same words is none)
+    (sym (ap (λ (f : Text → Option Text). is_some (threads_in f)) (same_texts ∙ texts_moved a same words is)) ∙ said)
 
-pub untaken : (a : App) (words : List Text) → a ≡ same → (fault_of a words ≡ [] → ⊥) → is_taken words ≡ false
-untaken a words is some = some_fault (fault_of same words) (some_moved a same words is some)
+pub unasked : (a : App) (words : List Text) → a ≡ same → (fault_of a words ≡ [] → ⊥) → is_asked words ≡ false
+unasked a words is some = unasked_by (fault_of same words) (is_some (threads_in (texts_of same words))) (some_moved a same words is some)
 
-abbrev pair_by : (Text → Option Text) → Pair
-pair_by found = record { first = under found (codes "a"); second = under found (codes "b") }
+pub paired : (a : App) (words : List Text) (found : Text → Option Text) (names : Pair) → a ≡ same → found ≡ texts_of a words → names ≡ pair_by found → names ≡ pair_by (texts_of same words)
+paired a words found names is same_texts by = by ∙ ap pair_by (same_texts ∙ texts_moved a same words is)
 
-pub paired_by : (a : App) (words : List Text) (found : Text → Option Text) (names : Pair) → a ≡ same → found ≡ texts_of a words → names ≡ pair_by found → names ≡ pair_in words
-paired_by a words found names is same_texts by = by ∙ ap pair_by (same_texts ∙ texts_moved a same words is)
+-- ---- how many threads they ask for
+pub pair_may_be : (found : Text → Option Text) → MayBeCompared (pair_by found)
+unfolding pair_by
+pair_may_be found =
+    let within = number_within 64 1 (said_of found option.Threads) (omega arith, omega arith) in
+    record { some_threads = within.0; few_threads = within.1 }
+
+pub words_may_be : (words : List Text) → MayBeCompared (same_of words)
+unfolding same_of
+words_may_be words = pair_may_be (texts_of same (drop 1 words))
 
 -- ---- words with two names
-abbrev words_for : Text → Text → List Text
-words_for first second = codes "same" ∷ codes "--" ∷ first ∷ second ∷ []
+abbrev words_for : Text → Text → Text → List Text
+words_for first second threads = codes "same" ∷ (codes "--threads=" ++ threads) ∷ codes "--" ∷ first ∷ second ∷ []
 
-words_taken : (first second : Text) → fault_of same (words_for first second) ≡ []
-unfolding clap_on_literals same with_place
-words_taken first second = refl
+words_taken : (first second threads : Text) → fault_of same (words_for first second threads) ≡ []
+unfolding clap_on_literals same with_option with_place
+words_taken first second threads = refl
 
-first_found : (first second : Text) → named_in (words_for first second) (codes "a") ≡ first
-unfolding clap_on_literals same with_place
-first_found first second = refl
+first_found : (first second threads : Text) → under (texts_of same (words_for first second threads)) (codes "a") ≡ first
+unfolding clap_on_literals same with_option with_place
+first_found first second threads = refl
 
-second_found : (first second : Text) → named_in (words_for first second) (codes "b") ≡ second
-unfolding clap_on_literals same with_place
-second_found first second = refl
+second_found : (first second threads : Text) → under (texts_of same (words_for first second threads)) (codes "b") ≡ second
+unfolding clap_on_literals same with_option with_place
+second_found first second threads = refl
 
-words_good : (first second : Text) → is_same ([] ∷ words_for first second) ≡ true
+threads_found : (first second threads : Text) → said_of (texts_of same (words_for first second threads)) option.Threads ≡ threads
+unfolding clap_on_literals same with_option with_place
+threads_found first second threads = refl
+
+threads_back : (n : ℕ) → 1 ≤ n → n ≤ 64 → threads_said (decimal n) ≡ Some n
+threads_back n some few = number_spelled 64 n (omega arith) some few
+
+words_good : (p : Pair) → MayBeCompared p → is_same ([] ∷ words_for p.first p.second (decimal p.threads)) ≡ true
 unfolding is_same
-words_good first second = no_fault (fault_of same (words_for first second)) (words_taken first second)
+words_good p may =
+    let none : is_taken (words_for p.first p.second (decimal p.threads)) ≡ true = no_fault (fault_of same (words_for p.first p.second (decimal p.threads))) (words_taken p.first p.second (decimal p.threads)) in
+    rw (none, threads_found p.first p.second (decimal p.threads), threads_back p.threads may.some_threads may.few_threads) refl
 
-words_named : (names : Pair) → same_of ([] ∷ words_for names.first names.second) ≡ names
-unfolding same_of
-words_named names = rw (first_found names.first names.second, second_found names.first names.second) refl
+words_named : (p : Pair) → MayBeCompared p → same_of ([] ∷ words_for p.first p.second (decimal p.threads)) ≡ p
+unfolding same_of pair_by
+words_named p may =
+    rw (
+      first_found p.first p.second (decimal p.threads),
+      second_found p.first p.second (decimal p.threads),
+      threads_found p.first p.second (decimal p.threads),
+      threads_back p.threads may.some_threads may.few_threads,
+    ) refl
 
-pub has_same_words : (names : Pair) → AsksSame names
-has_same_words names = record { words = [] ∷ words_for names.first names.second; good = words_good names.first names.second; named = words_named names }
-
--- ---- no words are good for this command and another
-pub same_not_transcode : (words : List Text) → is_good words ≡ true → is_same words ≡ false
-unfolding is_good is_same
-same_not_transcode words good =
-    let named : names_command words ≡ true = (and_parts (names_command words) _ good).0 in
-    rw (not_named (slice_index_or words 1 []) (codes "transcode") (codes "same") refl named) refl
-
-pub same_not_make : (words : List Text) → is_make words ≡ true → is_same words ≡ false
-unfolding is_make is_same
-same_not_make words good =
-    let named : names_make words ≡ true = (and_parts (names_make words) _ good).0 in
-    rw (not_named (slice_index_or words 1 []) (codes "make") (codes "same") refl named) refl
-
-pub same_not_boxes : (words : List Text) → is_boxes words ≡ true → is_same words ≡ false
-unfolding is_boxes is_same
-same_not_boxes words good =
-    let named : names_boxes words ≡ true = (and_parts (names_boxes words) _ good).0 in
-    rw (not_named (slice_index_or words 1 []) (codes "boxes") (codes "same") refl named) refl
-
--- ---- two texts
-pub pair_is : (a b c d : Text) → a ≡ c → b ≡ d → ◌≡◌ {A = Pair} (record { first = a; second = b }) (record { first = c; second = d })
-pair_is a b c d e f = rw (e, f) refl
+pub has_same_words : (p : Pair) → MayBeCompared p → AsksSame p
+has_same_words p may = record { words = [] ∷ words_for p.first p.second (decimal p.threads); good = words_good p may; named = words_named p may }

@@ -62,10 +62,10 @@ unfolding wanted_by
 given_may_be g = record { order = order_asked g.order; bytes = are_bytes (unwrap_or (precincts_said g.precincts) None) (precincts_asked g.precincts); style = style_few g.style }
 
 -- a number that is said, or the default
-abbrev IsWithin : ℕ → ℕ → Type 0
+abbrev pub IsWithin : ℕ → ℕ → Type 0
 IsWithin most n = (1 ≤ n) × (n ≤ most)
 
-number_within : (most default : ℕ) (text : List ℕ) → IsWithin most default → IsWithin most (unwrap_or (number_in most text) default)
+pub number_within : (most default : ℕ) (text : List ℕ) → IsWithin most default → IsWithin most (unwrap_or (number_in most text) default)
 number_within most default text may = by (number_in most text) refl
   where
     by : (o : Option ℕ) → number_in most text ≡ o → IsWithin most (unwrap_or o default)

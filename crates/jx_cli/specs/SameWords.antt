@@ -1,18 +1,27 @@
--- What the words of `jx same` ask for: whether two files have the same coefficients.
-use Rattle.std.specs.Prelude.{◌≡◌, true, ◌&&◌, Bool, List, [], length, drop, slice_index_or, codes, eqb, unwrap_or}
+-- What the words of `jx same` ask for: whether two files have the same coefficients, by so many threads.
+use Rattle.std.specs.Prelude.{◌≡◌, ◌≤◌, ℕ, true, ◌&&◌, Bool, List, [], ◌∷◌, length, drop, slice_index_or, codes, eqb, is_some, Option, unwrap_or}
 use Rattle.std.specs.Str.{bytes_eq}
-use Rattle.clap.specs.Words.{App, fault_of, first_of, matches_of, new_app}
-use Rattle.jx_cli.specs.Command.{with_place}
-use Rattle.jx_cli.specs.Words.{Text}
+use Rattle.clap.specs.Words.{App, fault_of, new_app}
+use Rattle.jx_cli.specs.Command.{with_options, with_place}
+use Rattle.jx_cli.specs.MakeFound.{texts_of, under}
+use Rattle.jx_cli.specs.Words.{Text, said_of}
+use Rattle.jx_options.specs.declared.names.OptionName.TheVariants as option
+use Rattle.jx_options.specs.Names.{threads_said}
 
--- the names of two files
+-- the names of two files, and how many threads compare them
 pub record Pair : Type 0 where
   pub first : Text
   pub second : Text
+  pub threads : ℕ
 
--- the command as clap is told of it: two words that have to be there
+-- what words can ask for; a name may be any text
+pub record MayBeCompared (p : Pair) : Type 0 where
+  pub some_threads : 1 ≤ p.threads
+  pub few_threads : p.threads ≤ 64
+
+-- the command as clap is told of it: two words that have to be there, and one option of `transcode`
 unfoldable pub same : App
-same = with_place (codes "b") (with_place (codes "a") (new_app (codes "same")))
+same = with_options (option.Threads ∷ []) (with_place (codes "b") (with_place (codes "a") (new_app (codes "same"))))
 
 abbrev pub names_same : List Text → Bool
 names_same words = bytes_eq (slice_index_or words 1 []) (codes "same")
@@ -21,22 +30,26 @@ names_same words = bytes_eq (slice_index_or words 1 []) (codes "same")
 abbrev pub is_taken : List Text → Bool
 is_taken words = eqb (length (fault_of same words)) 0
 
--- the text that clap finds under a name
-abbrev pub named_in : List Text → Text → Text
-named_in words name = unwrap_or (first_of name (matches_of same words)) []
+-- ---- by the text that clap finds under each name
+abbrev pub threads_in : (Text → Option Text) → Option ℕ
+threads_in found = threads_said (said_of found option.Threads)
 
-abbrev pub pair_in : List Text → Pair
-pair_in words = record { first = named_in words (codes "a"); second = named_in words (codes "b") }
+unfoldable pub pair_by : (Text → Option Text) → Pair
+pair_by found = record { first = under found (codes "a"); second = under found (codes "b"); threads = unwrap_or (threads_in found) 1 }
 
--- the words are the program's name, `same`, and the names of two files
+-- clap takes the words from the command's name on, and they say how many threads
+abbrev pub is_asked : List Text → Bool
+is_asked words = is_taken words && is_some (threads_in (texts_of same words))
+
+-- the words are the program's name, `same`, the names of two files, and perhaps how many threads
 unfoldable pub is_same : List Text → Bool
-is_same words = names_same words && is_taken (drop 1 words)
+is_same words = names_same words && is_asked (drop 1 words)
 
--- these names
+-- what they ask for
 unfoldable pub same_of : List Text → Pair
-same_of words = pair_in (drop 1 words)
+same_of words = pair_by (texts_of same (drop 1 words))
 
--- good words with these names
+-- good words that ask for it
 pub record AsksSame (names : Pair) : Type 0 where
   pub words : List Text
   pub good : is_same words ≡ true

@@ -1,4 +1,4 @@
-//! The commands `transcode`, `make`, `boxes` and `same`, their words and their options.
+//! The commands `transcode`, `make`, `boxes`, `same` and `show`, their words and their options.
 
 ghost use Rattle.std.specs.Prelude.{◌≡◌, IfOk, false, map};
 ghost use Rattle.clap.specs.Words.{app_of, rule_of};
@@ -7,6 +7,7 @@ ghost use Rattle.jx_cli.specs.Command.{place_rule, transcode, with_options, with
 ghost use Rattle.jx_cli.specs.CommandWords.{rule_by, with_words};
 ghost use Rattle.jx_cli.specs.MakeWords.{make};
 ghost use Rattle.jx_cli.specs.SameWords.{same};
+ghost use Rattle.jx_cli.specs.ShowWords.{show};
 ghost use Rattle.jx_options.specs.Names.{default_of, is_flag, name_of};
 
 use clap::{Arg, ArgAction, Command};
@@ -116,10 +117,20 @@ pub(crate) fn boxes<'a>(alloc: Global) -> Result<Command<'a>, AllocError>
     with_words(alloc, command, &["in"])
 }
 
-/// The command `same`, of two words.
+/// The command `same`, of two words and an option.
 pub(crate) fn same<'a>(alloc: Global) -> Result<Command<'a>, AllocError>
     ensures { IfOk result (λ c. app_of c ≡ same) }
 {
     let command = Command::new(alloc, "same");
-    with_words(alloc, command, &["a", "b"])
+    let command = with_words(alloc, command, &["a", "b"])?;
+    with_options(alloc, command, &[OptionName::Threads])
+}
+
+/// The command `show`, of one word, and whether JSON is said.
+pub(crate) fn show<'a>(alloc: Global) -> Result<Command<'a>, AllocError>
+    ensures { IfOk result (λ c. app_of c ≡ show) }
+{
+    let command = Command::new(alloc, "show");
+    let command = with_words(alloc, command, &["in"])?;
+    command.arg(arg_of(alloc, true, "json", ""))
 }

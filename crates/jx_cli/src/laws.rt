@@ -1,11 +1,13 @@
 //! Laws over the definitions: which requests words make, and which pictures they ask for. They run no code.
 
-ghost use Rattle.std.specs.Prelude.{◌≡◌, ◌≤◌, List, false, true};
+ghost use Rattle.std.specs.Prelude.{◌≡◌, ◌≤◌, List, true};
 ghost use Rattle.jx_options.specs.Wanted.{MayBeWanted};
-ghost use Rattle.jx_cli.specs.BoxesWords.{AsksBoxes, is_boxes};
+ghost use Rattle.jx_cli.specs.BoxesWords.{AsksBoxes};
+ghost use Rattle.jx_cli.specs.CommandNames.{CommandName, is_good_for};
 ghost use Rattle.jx_cli.specs.MakeFound.{AsksMake};
 ghost use Rattle.jx_cli.specs.MakeWords.{Make, MayBeMade, is_make, make_of};
-ghost use Rattle.jx_cli.specs.SameWords.{AsksSame, Pair, is_same};
+ghost use Rattle.jx_cli.specs.SameWords.{AsksSame, MayBeCompared, Pair, is_same, same_of};
+ghost use Rattle.jx_cli.specs.ShowWords.{AsksShow, Show};
 ghost use Rattle.jx_cli.specs.Words.{Asks, MayBeAsked, Request, Text, is_good, request_of};
 ghost use Rattle.jx_options.specs.Work.{MayBeWork};
 
@@ -36,15 +38,18 @@ pub fn boxes_have_words()
     ensures { (name : Text) → AsksBoxes name }
 {}
 
-/// Each two names are asked for by some good words of `same`.
+/// Good words of `same` ask for 1 to 64 threads, and each two names and such a number are asked for by some.
 pub fn same_has_words()
-    ensures { (names : Pair) → AsksSame names }
+    ensures made { (names : Pair) → MayBeCompared names → AsksSame names }
+    ensures asked { (words : List Text) → is_same words ≡ true → MayBeCompared (same_of words) }
+{}
+
+/// Each name is asked for by some good words of `show`, with JSON and without.
+pub fn show_has_words()
+    ensures { (asked : Show) → AsksShow asked }
 {}
 
 /// No words are good for two commands.
 pub fn commands_are_apart()
-    ensures make { (words : List Text) → is_good words ≡ true → is_make words ≡ false }
-    ensures boxes { (words : List Text) → is_good words ≡ true → is_boxes words ≡ false }
-    ensures others { (words : List Text) → is_make words ≡ true → is_boxes words ≡ false }
-    ensures same { (words : List Text) → (is_good words ≡ true → is_same words ≡ false) × (is_make words ≡ true → is_same words ≡ false) × (is_boxes words ≡ true → is_same words ≡ false) }
+    ensures { (one other : CommandName) (words : List Text) → is_good_for one words ≡ true → is_good_for other words ≡ true → one ≡ other }
 {}

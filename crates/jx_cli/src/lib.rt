@@ -1,4 +1,4 @@
-//! The words of the command lines `jx transcode`, `jx make`, `jx boxes` and `jx same`, read with clap.
+//! The words of the command lines `jx transcode`, `jx make`, `jx boxes`, `jx same` and `jx show`, read with clap.
 #![tactic(auto)]
 
 ghost use Rattle.std.specs.Prelude.{◌≡◌};
@@ -10,12 +10,14 @@ pub mod laws;
 mod make;
 mod reading;
 mod same;
+mod show;
 
 pub use boxes::read_boxes;
 use jx_options::{FormChoice, Options, Work};
 pub use make::{Make, read_make};
 pub use reading::read_words;
 pub use same::{Pair, read_same};
+pub use show::{Show, read_show};
 use std::marker::Model;
 
 /// What good words ask for.

@@ -1,21 +1,27 @@
 //! What the words of `same` ask for.
 
-ghost use Rattle.std.specs.Prelude.{◌≡◌, ◌≤◌, true, false, IfErr, IfOk, Err, length, map, string_bytes};
-ghost use Rattle.jx_cli.specs.SameWords.{is_same, is_taken, names_same, pair_in, same_of};
+ghost use Rattle.std.specs.Prelude.{◌≡◌, ◌≤◌, true, false, IfErr, IfOk, Err, is_some, length, map, string_bytes};
+ghost use Rattle.clap.specs.Words.{first_value, found_of};
+ghost use Rattle.jx_cli.specs.MakeFound.{texts_of};
+ghost use Rattle.jx_cli.specs.SameWords.{MayBeCompared, is_asked, is_same, names_same, pair_by, same, same_of, threads_in};
 
 use crate::WordsFault;
 use crate::command::same;
-use crate::given::{matches_in, text_of};
+use crate::given::{matches_in, said_of, text_of};
+use clap::ArgMatches;
+use jx_options::{OptionName, threads_said};
 use std::alloc::Global;
 use std::marker::Model;
 
-/// The names of two files, of which the second is compared with the first.
+/// The names of two files, of which the second is compared with the first, and by how many threads.
 #[derive(Drop)]
 pub struct Pair {
     /// The name of the first.
     pub first: String,
     /// The name of the second.
     pub second: String,
+    /// How many threads compare code-blocks, 1 to 64.
+    pub threads: u32,
 }
 
 impl Model for Pair {
@@ -24,7 +30,7 @@ impl Model for Pair {
 
     ghost Value = { Pair };
 
-    ghost view = { λ p. record { first = string_bytes p.first; second = string_bytes p.second } };
+    ghost view = { λ p. record { first = string_bytes p.first; second = string_bytes p.second; threads = p.threads } };
 }
 
 impl Pair {
@@ -41,41 +47,61 @@ impl Pair {
     {
         self.second.as_str()
     }
+
+    /// How many threads compare code-blocks.
+    pub fn threads(&self) -> u32
+        ensures { result ≡ self.now.threads }
+    {
+        self.threads
+    }
 }
 
 /// Names that are kept.
-fn pair_of(alloc: Global, first: &str, second: &str) -> Result<Pair, WordsFault>
-    ensures value { IfOk result (λ pair. pair ≡ record { first = first.now; second = second.now }) }
+fn pair_of(alloc: Global, first: &str, second: &str, threads: u32) -> Result<Pair, WordsFault>
+    ensures value { IfOk result (λ pair. pair ≡ record { first = first.now; second = second.now; threads = threads }) }
     ensures memory { IfErr result (λ fault. fault ≡ WordsFault.NoMemory) }
 {
     let Ok(first) = String::from_str(alloc, first) else {
         return Err(WordsFault::NoMemory);
     };
-    match String::from_str(alloc, second) {
-        Ok(second) => Ok(Pair { first, second }),
-        Err(_) => Err(WordsFault::NoMemory),
-    }
+    let Ok(second) = String::from_str(alloc, second) else {
+        return Err(WordsFault::NoMemory);
+    };
+    Ok(Pair {
+        first,
+        second,
+        threads,
+    })
 }
 
-/// The names of two files in words, of which the first is the command's name.
+/// The names and the number that were found.
+#[tactic(auto, unfolding(crate::specs::SameWords::pair_by))]
+fn pair_by(alloc: Global, matches: &ArgMatches<'_>) -> Result<Pair, WordsFault>
+    ensures good { IfOk result (λ _. is_some (threads_in (first_value (found_of matches.now))) ≡ true) }
+    ensures value { IfOk result (λ pair. pair ≡ pair_by (first_value (found_of matches.now))) }
+    ensures words { result ≡ Err WordsFault.Words → is_some (threads_in (first_value (found_of matches.now))) ≡ false }
+{
+    let Some(threads) = threads_said(said_of(matches, OptionName::Threads)) else {
+        return Err(WordsFault::Words);
+    };
+    let first = text_of(matches, "a", "");
+    pair_of(alloc, first, text_of(matches, "b", ""), threads)
+}
+
+/// What words ask for, of which the first is the command's name.
 fn names_in(alloc: Global, words: &[String]) -> Result<Pair, WordsFault>
-    ensures good { IfOk result (λ _. is_taken (map string_bytes words.now) ≡ true) }
-    ensures value { IfOk result (λ pair. pair ≡ pair_in (map string_bytes words.now)) }
-    ensures words { result ≡ Err WordsFault.Words → is_taken (map string_bytes words.now) ≡ false }
+    ensures good { IfOk result (λ _. is_asked (map string_bytes words.now) ≡ true) }
+    ensures value { IfOk result (λ pair. pair ≡ pair_by (texts_of same (map string_bytes words.now))) }
+    ensures words { result ≡ Err WordsFault.Words → is_asked (map string_bytes words.now) ≡ false }
 {
     let command = match same(alloc) {
         Ok(command) => command,
         Err(_) => return Err(WordsFault::NoMemory),
     };
-    let matches = match matches_in(command, words) {
-        Ok(matches) => matches,
-        Err(fault) => return Err(fault),
-    };
-    pair_of(
-        alloc,
-        text_of(&matches, "a", ""),
-        text_of(&matches, "b", ""),
-    )
+    match matches_in(command, words) {
+        Ok(matches) => pair_by(alloc, &matches),
+        Err(fault) => Err(fault),
+    }
 }
 
 /// Whether the second word is the command's name.
@@ -89,9 +115,10 @@ fn names_same(words: &[String]) -> bool
     words[1].as_str() == "same"
 }
 
-/// Reads the words of the command line, the program's name among them: the names of the files that are compared.
+/// Reads the words of the command line, the program's name among them: the names of the files that are compared, and by how many threads.
 ///
-/// They name the command `same`, and clap reads the words behind it: two names.
+/// They name the command `same`, and clap reads the words behind it: two names, and `--threads` with 1 to 64, which is 1 where it isn't
+/// there.
 ///
 /// # Errors
 /// `Words` where they aren't good words, `NoMemory` where there was no memory.
@@ -99,6 +126,7 @@ fn names_same(words: &[String]) -> bool
 pub fn read_same(alloc: Global, words: &[String]) -> Result<Pair, WordsFault>
     ensures good { IfOk result (λ _. is_same (map string_bytes words.now) ≡ true) }
     ensures value { IfOk result (λ pair. pair ≡ same_of (map string_bytes words.now)) }
+    ensures may { IfOk result (λ pair. MayBeCompared pair) }
     ensures words { result ≡ Err WordsFault.Words → is_same (map string_bytes words.now) ≡ false }
 {
     if !names_same(words) {

@@ -15,4 +15,6 @@ mod pieces_tests;
 #[cfg(test)]
 mod pool_tests;
 #[cfg(test)]
+mod stop_tests;
+#[cfg(test)]
 mod style_tests;

@@ -3,6 +3,7 @@ pub mod Codestream
 pub mod Lines
 pub mod Trees
 pub mod Wrapped
+pub mod Names
 pub mod Positions
 -- Inner: no other crate cites these.
 pub mod Heads

@@ -1,5 +1,5 @@
 //! The boxes of a JP2 file (ITU-T T.800, Annex I): the codestream among them, the file with another codestream in its place, and a
-//! list of all. Limit: 2^28 bytes.
+//! list of all, and names. Limit: 2^28 bytes.
 #![tactic(auto)]
 
 mod faults;
@@ -10,6 +10,7 @@ pub mod laws;
 mod levels;
 mod lines;
 mod listing;
+mod naming;
 mod numbers;
 mod positions;
 mod wrapping;
@@ -17,6 +18,7 @@ mod wrapping;
 pub use faults::BoxFault;
 pub use finding::{find, is_jp2};
 pub use listing::list;
+pub use naming::names;
 pub use positions::holds_positions;
 pub use wrapping::{Head, around, head_for, wrap};
 

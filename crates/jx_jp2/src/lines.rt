@@ -47,7 +47,7 @@ fn push_hex(text: &mut String, byte: u8) -> Result<(), AllocError>
     push_ascii(text, hex_digit(byte % 16))
 }
 
-fn push_shown(text: &mut String, kind: &[u8]) -> Result<(), AllocError>
+pub(crate) fn push_shown(text: &mut String, kind: &[u8]) -> Result<(), AllocError>
     requires { list_all is_shown kind.now ≡ true }
     ensures { OnOk result (string_bytes text.new ≡ string_bytes text.old ++ kind.now) }
 {
@@ -57,7 +57,7 @@ fn push_shown(text: &mut String, kind: &[u8]) -> Result<(), AllocError>
     Ok(())
 }
 
-fn push_digits(text: &mut String, kind: &[u8]) -> Result<(), AllocError>
+pub(crate) fn push_digits(text: &mut String, kind: &[u8]) -> Result<(), AllocError>
     ensures { OnOk result (string_bytes text.new ≡ string_bytes text.old ++ flat_map hex_pair kind.now) }
 {
     for byte in kind {
@@ -66,7 +66,7 @@ fn push_digits(text: &mut String, kind: &[u8]) -> Result<(), AllocError>
     Ok(())
 }
 
-fn is_text(kind: &[u8]) -> bool
+pub(crate) fn is_text(kind: &[u8]) -> bool
     ensures { result ≡ list_all is_shown kind.now }
 {
     kind.iter().all(|byte| is_shown(*byte))

@@ -12,7 +12,7 @@ abbrev pub asks : Text → Bool
 asks word = is_help word || (bytes_eq word (codes "--version") || (bytes_eq word (codes "-V") || bytes_eq word (codes "help")))
 
 abbrev pub is_command : Text → Bool
-is_command word = bytes_eq word (codes "transcode") || (bytes_eq word (codes "make") || (bytes_eq word (codes "boxes") || bytes_eq word (codes "same")))
+is_command word = bytes_eq word (codes "transcode") || (bytes_eq word (codes "make") || (bytes_eq word (codes "boxes") || (bytes_eq word (codes "same") || bytes_eq word (codes "show"))))
 
 -- one of some words behind a command asks for its help, before `--`
 abbrev pub asks_among : List Text → Bool

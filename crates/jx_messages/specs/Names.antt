@@ -17,9 +17,9 @@ is_flag_named name option = is_flag option && bytes_eq (name_of option) name
 abbrev pub names_flag : Text → Bool
 names_flag name = list_any (is_flag_named name) all_names
 
--- an option without a value
+-- an option without a value: one of `transcode`, or that of `show`
 abbrev pub stands_alone : Text → Bool
-stands_alone word = is_option word && names_flag (drop 2 word)
+stands_alone word = is_option word && (names_flag (drop 2 word) || bytes_eq word (codes "--json"))
 
 -- an option has a value of its own, behind `=`
 abbrev pub has_value : Text → Bool
@@ -51,9 +51,10 @@ names_make words = bytes_eq (slice_index_or words 1 []) (codes "make")
 abbrev pub names_same : List Text → Bool
 names_same words = bytes_eq (slice_index_or words 1 []) (codes "same")
 
--- the command writes to standard output alone: it is `make`, `boxes` or `same`
+-- the command writes to standard output alone: it is `make`, `boxes`, `same` or `show`
 abbrev pub writes_nowhere : List Text → Bool
-writes_nowhere words = names_make words || (bytes_eq (slice_index_or words 1 []) (codes "boxes") || names_same words)
+writes_nowhere words =
+    names_make words || (bytes_eq (slice_index_or words 1 []) (codes "boxes") || (names_same words || bytes_eq (slice_index_or words 1 []) (codes "show")))
 
 -- the files that are read
 abbrev pub inputs_in : List Text → Text

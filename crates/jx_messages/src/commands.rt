@@ -72,6 +72,7 @@ levels, wavelet, component transform and quantization, the steps of its bands,
 and each coefficient's sign, bits and decoded bit-planes; order, layers,
 precincts, styles and the sizes of code-blocks don't count. But where one file
 has a code-block that no packet includes, other sizes can make a difference.
+What is said doesn't depend on the threads.
 
 Example:
   jx transcode in.j2k out.j2k --order rpcl --style terminate
@@ -79,11 +80,28 @@ Example:
 says
   same";
 
+static SHOW: &str = "Says what the codestream of a file is";
+
+static FACTS: &str = "\
+A line for each fact: its name, a colon and its value. First whether the file
+is a codestream or a JP2 file, and the names of its boxes; then the picture,
+its tiles and components; what the main header says; packets, code-blocks,
+tile-parts, comments and the bytes of the code-blocks, and whether PLT, PLM and
+TLM stand; then what each tile says itself. A line that names no component and
+no tile is said of all of which no other line says otherwise.
+
+With --json the same facts are the members of one object, under the same
+names. Two numbers are a list, yes is true, no is false.
+
+Example:
+  jx show picture.j2k";
+
 static USAGE: &str = "\
 Usage: jx transcode IN OUT [OPTIONS]
        jx make SEED WIDTH HEIGHT
        jx boxes IN
-       jx same A B
+       jx same A B [--threads N]
+       jx show IN [--json]
 
 jx --help says what they do, jx transcode --help all options.";
 
@@ -167,7 +185,25 @@ fn same<'a>(alloc: Global) -> Result<Command<'a>, AllocError> {
     let first = "a codestream or a JP2 file; - is standard input";
     let command = Command::new(alloc, "same").about(SAME).after_help(MEANING);
     let command = with_place(alloc, command, "a", "A", first)?;
-    with_place(alloc, command, "b", "B", "the one that is compared with it")
+    let command = with_place(alloc, command, "b", "B", "the one that is compared with it")?;
+    let threads = Arg::new(alloc, "threads")
+        .long("threads")
+        .help("threads that compare code-blocks;\n1 to 64, default 1; as in --threads 4")
+        .value_name("N")
+        .action(ArgAction::Set);
+    command.arg(threads)
+}
+
+/// The command `show`, with its help.
+fn show<'a>(alloc: Global) -> Result<Command<'a>, AllocError> {
+    let read = "the codestream or JP2 file that is read; - is standard input";
+    let json = Arg::new(alloc, "json")
+        .long("json")
+        .help("say a JSON object in place of lines")
+        .action(ArgAction::SetTrue);
+    let command = Command::new(alloc, "show").about(SHOW).after_help(FACTS);
+    let command = with_place(alloc, command, "in", "IN", read)?;
+    command.arg(json)
 }
 
 /// The program without its commands.
@@ -197,7 +233,8 @@ fn program<'a>(alloc: Global) -> Result<Command<'a>, AllocError> {
     let command = with_command(command, transcode(alloc))?;
     let command = with_command(command, make(alloc))?;
     let command = with_command(command, boxes(alloc))?;
-    with_command(command, same(alloc))
+    let command = with_command(command, same(alloc))?;
+    with_command(command, show(alloc))
 }
 
 /// A text with one line feed at its end.

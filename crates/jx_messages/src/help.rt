@@ -23,7 +23,7 @@ fn asks(word: &str) -> bool
 fn is_command(word: &str) -> bool
     ensures { result ≡ is_command word.now }
 {
-    word == "transcode" || word == "make" || word == "boxes" || word == "same"
+    word == "transcode" || word == "make" || word == "boxes" || word == "same" || word == "show"
 }
 
 /// Whether one of some words behind a command asks for its help, before `--`.

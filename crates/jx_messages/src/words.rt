@@ -34,7 +34,10 @@ fn stands_alone(word: &str) -> bool
     ensures { result ≡ stands_alone word.now }
 {
     let bytes = word.as_bytes();
-    bytes.len() >= 2 && bytes[0] == b'-' && bytes[1] == b'-' && names_flag(&bytes[2..])
+    bytes.len() >= 2
+        && bytes[0] == b'-'
+        && bytes[1] == b'-'
+        && (names_flag(&bytes[2..]) || word == "--json")
 }
 
 /// Whether an option has a value of its own, behind `=`.
@@ -115,7 +118,8 @@ pub(crate) fn writes_nowhere(words: &[String]) -> bool
     if words.len() < 2 {
         return false;
     }
-    names_make(words) || words[1].as_str() == "boxes" || names_same(words)
+    let word = words[1].as_str();
+    names_make(words) || word == "boxes" || names_same(words) || word == "show"
 }
 
 /// The files that are read.

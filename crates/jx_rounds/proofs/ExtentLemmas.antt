@@ -1,8 +1,10 @@
 -- The tiles of a round, one after another.
-use Rattle.std.proofs.Common.{◌≡◌, ◌∙◌, ◌<◌, ◌≤◌, ◌+◌, ◌-◌, ℕ, zero, suc, List, [], ◌∷◌, ◌++◌, length, map, take, drop, refl, ap, sym, subst, arith, inl, inr, Some, length-append, length-drop, slice_index_or}
+use Rattle.std.proofs.Common.{◌≡◌, ◌∙◌, ◌<◌, ◌≤◌, ◌+◌, ◌-◌, ℕ, zero, suc, List, [], ◌∷◌, ◌++◌, length, map, min, take, drop, refl, ap, sym, subst, arith, inl, inr, Some, length-append, length-drop, slice_index_or}
 use Rattle.std.specs.List.{slice_get}
 use Rattle.std.proofs.lemmas.Bool.{cases_eq, cases_lt}
-use Rattle.std.proofs.lemmas.List.{drop-drop, drop-map, drop-take, length-take-le, take-map, take-take}
+use Rattle.std.proofs.lemmas.List.{drop-drop, drop-map, drop-take, length-take-le, take-append-drop, take-map, take-take, take_all}
+use Rattle.std.proofs.lemmas.List.Elements.{All-append, All-nil}
+use Rattle.std.proofs.Math.Seq.{take-add}
 use Rattle.std.proofs.lemmas.Option.{none-some, same_Some, slice_get-get_or}
 use Rattle.jx_base.proofs.Lists.{get_left, get_right}
 use Rattle.jx_base.proofs.Sums.{sum_below_grows}
@@ -13,8 +15,8 @@ use Rattle.jx_store.specs.declared.work.Named.{Named}
 use Rattle.jx_workers.specs.Tapes.{answer_of}
 use Rattle.jx_codestream.specs.First.{tile_number}
 use Rattle.jx_plan.specs.Plan.{IsPlan, Plan}
-use Rattle.jx_tier2_writer.specs.Tile.{blocks_in, first_block}
-use Rattle.jx_rounds.specs.MadeRounds.{AreCounts, AreOfBlocks, AreOfRound, IsExtent}
+use Rattle.jx_tier2_writer.specs.Tile.{AreMade, IsMade, blocks_in, first_block}
+use Rattle.jx_rounds.specs.MadeRounds.{AreCounts, AreOfBlocks, AreOfRound, AreUpTo, IsExtent}
 use Rattle.jx_rounds.specs.Rounds.{BeginsRound, IsInRound, IsPlace}
 use Rattle.jx_rounds.proofs.FrontLemmas.{block_next, blocks_are, jobs_few, round_full}
 
@@ -143,7 +145,46 @@ tile_at p tile at blocks count from counts of low high is so_far =
       next = omega (arith, so_far, counted, next);
     }
 
-pub entries_at : (p : Plan) (tile at blocks count from : ℕ) (entries part : List (Taped (Named WrittenBlock))) → IsTileAt p tile at blocks count from → AreOfBlocks p (first_block p tile) blocks entries
-    → first_block p tile + from ≡ first_block p at → part ≡ take count (drop from entries) → AreOfBlocks p (first_block p at) (blocks_in p at) part
-entries_at p tile at blocks count from entries part own are so_far is =
-    subst (λ (n : ℕ). AreOfBlocks p (first_block p at) n part) own.count_is (part_of p (first_block p tile) blocks from count (first_block p at) entries part are own.within so_far is)
+-- the entries before it are made, and these are its own, or those that there are
+pub entries_at : (p : Plan) (tile at blocks count from end : ℕ) (entries part : List (Taped (Named WrittenBlock))) → IsTileAt p tile at blocks count from → AreUpTo p (first_block p tile) blocks entries
+    → first_block p tile + from ≡ first_block p at → from ≤ length entries → AreMade (take from entries) → end ≡ min (from + count) (length entries) → part ≡ take (end - from) (drop from entries)
+    → AreUpTo p (first_block p at) (blocks_in p at) part
+entries_at p tile at blocks count from end entries part own are so_far low made ends is =
+    let within : from + (end - from) ≤ length entries = omega (arith, low, ends) in
+    let long : length part ≡ end - from = ap length is ∙ length-take-le (end - from) (drop from entries) (omega (arith, length-drop from entries, within)) in
+    let of : AreOfBlocks p (first_block p at) (end - from) part = part_of p (first_block p tile) (length entries) from (end - from) (first_block p at) entries part are.of within so_far is in
+    record {
+      of = subst (λ (n : ℕ). AreOfBlocks p (first_block p at) n part) (sym long) of;
+      few = omega (arith, long, ends, own.count_is);
+      short = λ less own_made.
+          let last : end ≡ length entries = omega (arith, less, long, ends, own.count_is, low) in
+          let rest : part ≡ drop from entries = is ∙ take_all (end - from) (drop from entries) (omega (arith, length-drop from entries, last)) in
+          let all : AreMade entries = subst AreMade (take-append-drop from entries) (All-append (λ (t : Taped (Named WrittenBlock)). IsMade t.named) (take from entries) (drop from entries) made (subst AreMade rest own_made)) in
+          are.short (omega (arith, less, long, last, own.count_is, own.within, low)) all;
+    }
+
+-- where its own are those of all its blocks, they end where the tile does
+pub end_whole : (p : Plan) (tile at blocks count from end : ℕ) (entries part : List (Taped (Named WrittenBlock))) → IsTileAt p tile at blocks count from → from ≤ length entries → end ≡ min (from + count) (length entries)
+    → part ≡ take (end - from) (drop from entries) → length part ≡ blocks_in p at → (from ≤ end) × (end ≡ from + count) × (from + count ≤ length entries)
+end_whole p tile at blocks count from end entries part own low ends is whole =
+    let within : from + (end - from) ≤ length entries = omega (arith, low, ends) in
+    let long : length part ≡ end - from = ap length is ∙ length-take-le (end - from) (drop from entries) (omega (arith, length-drop from entries, within)) in
+    (omega (arith, low, ends), omega (arith, low, ends, long, whole, own.count_is), omega (arith, low, ends, long, whole, own.count_is))
+
+-- the entries of all tiles are those of all blocks
+pub entries_whole : (p : Plan) (tile at next blocks from : ℕ) (counts : List ℕ) (entries : List (Taped (Named WrittenBlock))) → AreOfRound p tile counts blocks → AreUpTo p (first_block p tile) blocks entries
+    → next ≡ tile + length counts → at ≡ next → first_block p tile + from ≡ first_block p at → from ≤ length entries → length entries ≡ blocks
+entries_whole p tile at next blocks from counts entries of are ends last so_far low =
+    let place : first_block p at ≡ first_block p (tile + length counts) = ap (first_block p) (last ∙ ends) in
+    omega (arith, so_far, place, of.blocks_are, low, are.few)
+
+-- no entry yet, and those of one tile more, are made
+pub made_none : (entries : List (Taped (Named WrittenBlock))) → AreMade (take 0 entries)
+made_none entries = All-nil (λ (t : Taped (Named WrittenBlock)). IsMade t.named)
+
+pub made_next : (from end next : ℕ) (entries part : List (Taped (Named WrittenBlock))) → from ≤ end → end ≡ next → AreMade (take from entries) → AreMade part → part ≡ take (end - from) (drop from entries) → AreMade (take next entries)
+made_next from end next entries part low same made own is =
+    let rest : ℕ = end - from in
+    let whole : from + rest ≡ next = omega (arith, low, same) in
+    let joined : take from entries ++ take rest (drop from entries) ≡ take next entries = sym (take-add from rest entries) ∙ ap (λ (n : ℕ). take n entries) whole in
+    subst AreMade joined (All-append (λ (t : Taped (Named WrittenBlock)). IsMade t.named) (take from entries) (take rest (drop from entries)) made (subst AreMade is own))

@@ -1,8 +1,8 @@
 -- From what is made of the blocks of a round to the tape of a run.
-use Rattle.std.proofs.Common.{◌≡◌, ◌∙◌, ◌<◌, ◌≤◌, ◌+◌, ◌-◌, ◌^◌, ℕ, suc, true, is_some, List, [], ◌∷◌, ◌++◌, length, map, take, drop, refl, ap, sym, subst, arith, inl, inr, Some, append_assoc, append-nil, length-append, length-take, slice_index_or}
+use Rattle.std.proofs.Common.{◌≡◌, ◌∙◌, ◌<◌, ◌≤◌, ◌+◌, ◌-◌, ◌^◌, ℕ, suc, true, false, is_some, List, [], ◌∷◌, ◌++◌, length, map, take, drop, refl, ap, sym, subst, arith, inl, inr, Some, append_assoc, append-nil, length-append, length-take, slice_index_or}
 use Rattle.std.specs.List.{All, list_any, slice_get, sum}
 use Rattle.std.proofs.lemmas.List.{drop_all, drop-drop, drop-map, drop-take, length-map, map-append, take-map, take-take}
-use Rattle.std.proofs.lemmas.List.Elements.{All-append, All-cons, All-map, All-nil}
+use Rattle.std.proofs.lemmas.List.Elements.{All-append, All-cons, All-head, All-map, All-nil}
 use Rattle.std.proofs.Math.Seq.{drop-cons}
 use Rattle.std.specs.Option.{option_map}
 use Rattle.std.proofs.lemmas.Option.{same_Some, slice_get-map, slice_get_cases, slice_get_within}
@@ -10,20 +10,21 @@ use Rattle.std.proofs.lemmas.Simd.{map-map}
 use Rattle.jx_base.specs.declared.pieces.Block.{Block}
 use Rattle.jx_base.specs.Pieces.{bytes_in}
 use Rattle.jx_codeblock.specs.declared.job.Job.{Job}
-use Rattle.jx_codeblock.specs.Recoded.{WrittenBlock}
+use Rattle.jx_codeblock.specs.Recoded.{WrittenBlock, is_bad}
 use Rattle.jx_store.specs.declared.event.Taped.{Taped}
 use Rattle.jx_store.specs.declared.work.Named.{Named}
 use Rattle.jx_store.specs.Order.{numbers}
 use Rattle.jx_store.specs.Setup.{Within}
-use Rattle.jx_workers.specs.Tapes.{AreAsked, answer_of, bounds, size_of}
+use Rattle.jx_workers.specs.Tapes.{AreAsked, answer_of, bounds, size_of, up_to_bad}
+use Rattle.jx_workers.proofs.UpToLemmas.{fine_made, one_bad, one_fine, up_to_at, up_to_few, up_to_take}
 use Rattle.jx_base.proofs.Lists.{all_at, all_from, same_gets}
 use Rattle.jx_codestream.specs.First.{tile_number}
-use Rattle.jx_tier2_writer.specs.Tile.{first_block}
+use Rattle.jx_tier2_writer.specs.Tile.{AreMade, IsMade, first_block}
 use Rattle.jx_plan.specs.Plan.{IsPlan, Plan}
 use Rattle.jx_options.specs.Work.{MayBeWork, Work}
 use Rattle.jx_rounds.proofs.FrontLemmas.{blocks_are}
-use Rattle.jx_rounds.proofs.TileLemmas.{get_drop, get_take}
-use Rattle.jx_rounds.specs.MadeRounds.{AreMadeAlone, AreOfBlocks, AreUnshared, IsTapeFrom, TapesOn, entry_of}
+use Rattle.jx_rounds.proofs.TileLemmas.{get_drop, get_take, made_is, made_later}
+use Rattle.jx_rounds.specs.MadeRounds.{AreMadeAlone, AreUnshared, AreUpTo, IsTapeFrom, TapesOn, entry_of}
 use Rattle.jx_rounds.specs.Rounds.{AreAnswers, EndsRound, HasTape, IsFault, IsOfRound, IsPlace, IsTapedTo, IsUnmade}
 use Rattle.jx_rounds.specs.Tapes.{IsTapeOf, setup_of}
 use Rattle.jx_rounds.specs.Tiles.{Round}
@@ -55,64 +56,82 @@ module _ (laws : NumberLaws) where
       ])
 
 -- ---- what one thread makes of jobs is a tape of them, too
-pub alone_is_tape : NumberLaws → (jobs : List Job) (first : ℕ) (work : Work) (entries : List (Taped (Named WrittenBlock))) → AreAsked first jobs → MayBeWork work → AreMadeAlone jobs entries → IsTapeFrom jobs first work entries
+pub alone_is_tape : NumberLaws → (jobs : List Job) (first : ℕ) (work : Work) (entries : List (Taped (Named WrittenBlock))) → AreAsked first jobs → MayBeWork work → AreMadeAlone (up_to_bad jobs) entries → IsTapeFrom jobs first work entries
 alone_is_tape laws jobs first work entries asked may alone =
     let number : Taped (Named WrittenBlock) → ℕ = λ t. t.number in
-    let order : map number entries ≡ numbers first (length jobs) = alone.numbers_are ∙ numbered laws (λ (j : Job). j.number) jobs first (λ i j at. (asked i j at).numbered) in
+    let order : map number entries ≡ numbers first (length (up_to_bad jobs)) = alone.numbers_are ∙ numbered laws (λ (j : Job). j.number) (up_to_bad jobs) first (λ i j at. (asked i j (up_to_at jobs i j at)).numbered) in
     record {
       order = order;
       answers = alone.answers;
       workers = λ k d lt. omega (arith, alone.workers k d lt, may.some_threads);
       within = λ k d lt. (omega (arith, alone.seen k d lt), omega (arith, alone.seen k d lt, may.some_window), inl (alone.seen k d lt));
       from = all_from (λ (t : Taped (Named WrittenBlock)). first ≤ t.seen) entries (λ i t at.
-          omega (arith, number_at laws number entries first (length jobs) i t order at, all_at (λ (x : Taped (Named WrittenBlock)). x.seen ≡ x.number) entries i t alone.seen at));
+          omega (arith, number_at laws number entries first (length (up_to_bad jobs)) i t order at, all_at (λ (x : Taped (Named WrittenBlock)). x.seen ≡ x.number) entries i t alone.seen at));
     }
 
 -- jobs of which workers make something are shared
-pub shared_none : (jobs : List Job) (entries : List (Taped (Named WrittenBlock))) → list_any (λ (j : Job). is_some j.style) jobs ≡ true → sum (map size_of jobs) ≤ 2 ^ 28 → AreUnshared jobs → AreMadeAlone jobs entries
+pub shared_none : (jobs : List Job) (entries : List (Taped (Named WrittenBlock))) → list_any (λ (j : Job). is_some j.style) jobs ≡ true → sum (map size_of jobs) ≤ 2 ^ 28 → AreUnshared jobs → AreMadeAlone (up_to_bad jobs) entries
 shared_none jobs entries anew light (inl kept) = absurd (cc)
 shared_none jobs entries anew light (inr heavy) = absurd (omega (arith, light, heavy))
 
 -- ---- jobs, one after another
-mapped_next : {X Y Z : Type 0} (f : X → Z) (g : Y → Z) (xs more : List X) (x : X) (ys : List Y) (i : ℕ) (y : Y) → map f xs ++ map g (drop i ys) ≡ map g ys → i < length ys → y ≡ slice_index_or ys i y
-    → more ≡ xs ++ x ∷ [] → f x ≡ g y → map f more ++ map g (drop (i + 1) ys) ≡ map g ys
-mapped_next f g xs more x ys i y so_far lt is push same =
-    let next : suc i ≡ i + 1 = omega arith in
-    let first : drop i ys ≡ y ∷ drop (i + 1) ys = drop-cons ys i y lt ∙ ap (λ z. z ∷ drop (suc i) ys) (sym is) ∙ ap (λ (n : ℕ). y ∷ drop n ys) next in
-    ap (λ zs. map f zs ++ map g (drop (i + 1) ys)) push ∙ ap (λ zs. zs ++ map g (drop (i + 1) ys)) (map-append f xs (x ∷ [])) ∙ append_assoc (map f xs) (f x ∷ []) (map g (drop (i + 1) ys))
-    ∙ ap (λ z. map f xs ++ (z ∷ map g (drop (i + 1) ys))) same ∙ sym (ap (λ zs. map f xs ++ map g zs) first) ∙ so_far
+mapped_on : {X Y Z : Type 0} (f : X → Z) (g : Y → Z) (xs more : List X) (x : X) (now later : List Y) (y : Y) (whole : List Z) → map f xs ++ map g now ≡ whole → now ≡ y ∷ later → more ≡ xs ++ x ∷ [] → f x ≡ g y
+    → map f more ++ map g later ≡ whole
+mapped_on f g xs more x now later y whole so_far is push same =
+    ap (λ zs. map f zs ++ map g later) push ∙ ap (λ zs. zs ++ map g later) (map-append f xs (x ∷ [])) ∙ append_assoc (map f xs) (f x ∷ []) (map g later) ∙ ap (λ z. map f xs ++ (z ∷ map g later)) same
+    ∙ sym (ap (λ zs. map f xs ++ map g zs) is) ∙ so_far
 
 all_next : {X : Type 0} (P : X → Type 0) (xs more : List X) (x : X) → All P xs → more ≡ xs ++ x ∷ [] → P x → All P more
 all_next P xs more x each push here = subst (All P) (sym push) (All-append P xs (x ∷ []) each (All-cons P x [] here (All-nil P)))
 
-pub record AreAloneSoFar (jobs : List Job) (i : ℕ) (entries : List (Taped (Named WrittenBlock))) : Type 0 where
-  pub numbers_are : map (λ (t : Taped (Named WrittenBlock)). t.number) entries ++ map (λ (j : Job). j.number) (drop i jobs) ≡ map (λ (j : Job). j.number) jobs
-  pub answers : map (λ (t : Taped (Named WrittenBlock)). t.named) entries ++ map answer_of (drop i jobs) ≡ map answer_of jobs
+-- what is left are the jobs up to the first bad one
+pub record AreAloneBefore (jobs left : List Job) (entries : List (Taped (Named WrittenBlock))) : Type 0 where
+  pub numbers_are : map (λ (t : Taped (Named WrittenBlock)). t.number) entries ++ map (λ (j : Job). j.number) left ≡ map (λ (j : Job). j.number) (up_to_bad jobs)
+  pub answers : map (λ (t : Taped (Named WrittenBlock)). t.named) entries ++ map answer_of left ≡ map answer_of (up_to_bad jobs)
   pub workers : All (λ (t : Taped (Named WrittenBlock)). t.worker ≡ 0) entries
   pub seen : All (λ (t : Taped (Named WrittenBlock)). t.seen ≡ t.number) entries
+
+abbrev pub AreAloneSoFar : List Job → ℕ → List (Taped (Named WrittenBlock)) → Type 0
+AreAloneSoFar jobs i entries = AreAloneBefore jobs (up_to_bad (drop i jobs)) entries
 
 pub alone_none : (jobs : List Job) → AreAloneSoFar jobs 0 []
 alone_none jobs = record { numbers_are = refl; answers = refl; workers = All-nil _; seen = All-nil _ }
 
-pub alone_next : (jobs : List Job) (i : ℕ) (entries more : List (Taped (Named WrittenBlock))) (t : Taped (Named WrittenBlock)) (j : Job) → AreAloneSoFar jobs i entries → i < length jobs → j ≡ slice_index_or jobs i j
-    → more ≡ entries ++ t ∷ [] → t ≡ record { number = j.number; worker = 0; seen = j.number; named = answer_of j } → AreAloneSoFar jobs (i + 1) more
-alone_next jobs i entries more t j so_far lt is push made = record {
-  numbers_are = mapped_next (λ (x : Taped (Named WrittenBlock)). x.number) (λ (x : Job). x.number) entries more t jobs i j so_far.numbers_are lt is push (ap (λ (x : Taped (Named WrittenBlock)). x.number) made);
-  answers = mapped_next (λ (x : Taped (Named WrittenBlock)). x.named) answer_of entries more t jobs i j so_far.answers lt is push (ap (λ (x : Taped (Named WrittenBlock)). x.named) made);
+alone_on : (jobs now later : List Job) (entries more : List (Taped (Named WrittenBlock))) (t : Taped (Named WrittenBlock)) (j : Job) → AreAloneBefore jobs now entries → now ≡ j ∷ later
+    → more ≡ entries ++ t ∷ [] → t ≡ record { number = j.number; worker = 0; seen = j.number; named = answer_of j } → AreAloneBefore jobs later more
+alone_on jobs now later entries more t j so_far is push made = record {
+  numbers_are = mapped_on (λ (x : Taped (Named WrittenBlock)). x.number) (λ (x : Job). x.number) entries more t now later j _ so_far.numbers_are is push (ap (λ (x : Taped (Named WrittenBlock)). x.number) made);
+  answers = mapped_on (λ (x : Taped (Named WrittenBlock)). x.named) answer_of entries more t now later j _ so_far.answers is push (ap (λ (x : Taped (Named WrittenBlock)). x.named) made);
   workers = all_next (λ (x : Taped (Named WrittenBlock)). x.worker ≡ 0) entries more t so_far.workers push (ap (λ (x : Taped (Named WrittenBlock)). x.worker) made);
   seen = all_next (λ (x : Taped (Named WrittenBlock)). x.seen ≡ x.number) entries more t so_far.seen push
       (ap (λ (x : Taped (Named WrittenBlock)). x.seen) made ∙ sym (ap (λ (x : Taped (Named WrittenBlock)). x.number) made));
 }
 
-pub alone_all : (jobs : List Job) (i : ℕ) (entries : List (Taped (Named WrittenBlock))) → AreAloneSoFar jobs i entries → length jobs ≤ i → AreMadeAlone jobs entries
-alone_all jobs i entries so_far past =
-    let none : drop i jobs ≡ [] = drop_all i jobs past in
-    record {
-      numbers_are = sym (append-nil (map (λ (t : Taped (Named WrittenBlock)). t.number) entries)) ∙ sym (ap (λ (js : List Job). map (λ (t : Taped (Named WrittenBlock)). t.number) entries ++ map (λ (j : Job). j.number) js) none) ∙ so_far.numbers_are;
-      answers = sym (append-nil (map (λ (t : Taped (Named WrittenBlock)). t.named) entries)) ∙ sym (ap (λ (js : List Job). map (λ (t : Taped (Named WrittenBlock)). t.named) entries ++ map answer_of js) none) ∙ so_far.answers;
-      workers = so_far.workers;
-      seen = so_far.seen;
-    }
+job_first : (jobs : List Job) (i : ℕ) (j : Job) → i < length jobs → j ≡ slice_index_or jobs i j → drop i jobs ≡ j ∷ drop (i + 1) jobs
+job_first jobs i j lt is =
+    let next : suc i ≡ i + 1 = omega arith in
+    drop-cons jobs i j lt ∙ ap (λ z. z ∷ drop (suc i) jobs) (sym is) ∙ ap (λ (n : ℕ). j ∷ drop n jobs) next
+
+pub alone_next : (jobs : List Job) (i : ℕ) (entries more : List (Taped (Named WrittenBlock))) (t : Taped (Named WrittenBlock)) (j : Job) → AreAloneSoFar jobs i entries → i < length jobs → j ≡ slice_index_or jobs i j
+    → more ≡ entries ++ t ∷ [] → t ≡ record { number = j.number; worker = 0; seen = j.number; named = answer_of j } → is_bad j ≡ false → AreAloneSoFar jobs (i + 1) more
+alone_next jobs i entries more t j so_far lt is push made fine =
+    alone_on jobs (up_to_bad (drop i jobs)) (up_to_bad (drop (i + 1) jobs)) entries more t j so_far (ap up_to_bad (job_first jobs i j lt is) ∙ one_fine j (drop (i + 1) jobs) fine) push made
+
+alone_end : (jobs : List Job) (entries : List (Taped (Named WrittenBlock))) → AreAloneBefore jobs [] entries → AreMadeAlone (up_to_bad jobs) entries
+alone_end jobs entries so_far = record {
+  numbers_are = sym (append-nil (map (λ (t : Taped (Named WrittenBlock)). t.number) entries)) ∙ so_far.numbers_are;
+  answers = sym (append-nil (map (λ (t : Taped (Named WrittenBlock)). t.named) entries)) ∙ so_far.answers;
+  workers = so_far.workers;
+  seen = so_far.seen;
+}
+
+pub alone_bad : (jobs : List Job) (i : ℕ) (entries more : List (Taped (Named WrittenBlock))) (t : Taped (Named WrittenBlock)) (j : Job) → AreAloneSoFar jobs i entries → i < length jobs → j ≡ slice_index_or jobs i j
+    → more ≡ entries ++ t ∷ [] → t ≡ record { number = j.number; worker = 0; seen = j.number; named = answer_of j } → is_bad j ≡ true → AreMadeAlone (up_to_bad jobs) more
+alone_bad jobs i entries more t j so_far lt is push made bad =
+    alone_end jobs more (alone_on jobs (up_to_bad (drop i jobs)) [] entries more t j so_far (ap up_to_bad (job_first jobs i j lt is) ∙ one_bad j (drop (i + 1) jobs) bad) push made)
+
+pub alone_all : (jobs : List Job) (i : ℕ) (entries : List (Taped (Named WrittenBlock))) → AreAloneSoFar jobs i entries → length jobs ≤ i → AreMadeAlone (up_to_bad jobs) entries
+alone_all jobs i entries so_far past = alone_end jobs entries (subst (λ (left : List Job). AreAloneBefore jobs left entries) (ap up_to_bad (drop_all i jobs past)) so_far)
 
 -- ---- the windows of a round are those of the run
 cut_same : (xs : List ℕ) (first count seen m : ℕ) → first ≤ seen → seen + m ≤ first + count → take m (drop (seen - first) (take count (drop first xs))) ≡ take m (drop seen xs)
@@ -156,24 +175,46 @@ jobs_asked p first count jobs plan is inside i j at =
     let there : slice_get p.jobs (first + i) ≡ Some j = sym (get_take count (drop first p.jobs) i below ∙ get_drop first p.jobs i (first + i) refl) ∙ here in
     record { numbered = (plan.each (first + i) j there).number_is; asked = (plan.each (first + i) j there).asked }
 
+-- where there are fewer entries than jobs, nothing was made of the last
+short_bad : (jobs : List Job) (entries : List (Taped (Named WrittenBlock))) → map (λ (t : Taped (Named WrittenBlock)). t.named) entries ≡ map answer_of (up_to_bad jobs) → length entries < length jobs → AreMade entries → ⊥
+short_bad [] entries answers low made = absurd (omega (arith, low))
+short_bad (j ∷ jobs) [] answers low made = absurd (omega (arith, ap (λ (l : List (Named WrittenBlock)). length l) answers))
+short_bad (j ∷ jobs) (t ∷ entries) answers low made =
+    let is : t.named ≡ answer_of j = same_Some t.named (answer_of j) (ap (λ (l : List (Named WrittenBlock)). slice_get l 0) answers) in
+    let own = made_is t.named (All-head (λ (x : Taped (Named WrittenBlock)). IsMade x.named) t entries made) in
+    let fine : is_bad j ≡ false = fine_made own.0 j (sym own.1 ∙ is) in
+    let rest : map (λ (x : Taped (Named WrittenBlock)). x.named) entries ≡ map answer_of (up_to_bad jobs) = ap (drop 1) (answers ∙ ap (map answer_of) (one_fine j jobs fine)) in
+    short_bad jobs entries rest (omega (arith, low)) (made_later t entries made)
+
 module _ (laws : NumberLaws) (p : Plan) (work : Work) (first count : ℕ) (jobs : List Job) (entries : List (Taped (Named WrittenBlock))) (plan : IsPlan p) (is : jobs ≡ take count (drop first p.jobs)) (all : length jobs ≡ count)
     (inside : first + count ≤ length p.jobs) (tape : IsTapeFrom jobs first work entries) where
-  answers_count : length entries ≡ count
-  answers_count = length_numbered laws (λ (t : Taped (Named WrittenBlock)). t.number) entries first (length jobs) tape.order ∙ all
+  entries_long : length entries ≡ length (up_to_bad jobs)
+  entries_long = length_numbered laws (λ (t : Taped (Named WrittenBlock)). t.number) entries first (length (up_to_bad jobs)) tape.order
 
-  pub answers_of : AreOfBlocks p first count entries
-  answers_of = record { count_is = answers_count; answers = tape.answers ∙ ap (map answer_of) is }
+  entries_few : length entries ≤ count
+  entries_few = omega (arith, entries_long, up_to_few jobs, all)
+
+  front_jobs : up_to_bad jobs ≡ take (length entries) (drop first p.jobs)
+  front_jobs =
+      up_to_take jobs ∙ ap (λ (n : ℕ). take n jobs) (sym entries_long) ∙ ap (take (length entries)) is ∙ take-take (length entries) count (drop first p.jobs) entries_few
+
+  pub answers_of : AreUpTo p first count entries
+  answers_of = record {
+    of = record { count_is = refl; answers = tape.answers ∙ ap (map answer_of) front_jobs };
+    few = entries_few;
+    short = λ low made. short_bad jobs entries tape.answers (omega (arith, low, all)) made;
+  }
 
   pub answers_are : AreAnswers p work first entries
   answers_are = record {
-    order = tape.order ∙ ap (numbers first) (all ∙ sym answers_count);
-    within = omega (arith, inside, answers_count);
-    answers = tape.answers ∙ ap (map answer_of) is ∙ ap (λ (n : ℕ). map answer_of (take n (drop first p.jobs))) (sym answers_count);
+    order = tape.order ∙ ap (numbers first) (sym entries_long);
+    within = omega (arith, inside, entries_few);
+    answers = tape.answers ∙ ap (map answer_of) front_jobs;
     workers = tape.workers;
     seen = all_from (λ (t : Taped (Named WrittenBlock)). Within (setup_of work p.blocks) t.seen t.number) entries (λ i t at.
-        let number : t.number ≡ first + i = number_at laws (λ (x : Taped (Named WrittenBlock)). x.number) entries first (length jobs) i t tape.order at in
+        let number : t.number ≡ first + i = number_at laws (λ (x : Taped (Named WrittenBlock)). x.number) entries first (length (up_to_bad jobs)) i t tape.order at in
         within_run p work first count t.seen t.number jobs plan is (all_at (λ (x : Taped (Named WrittenBlock)). first ≤ x.seen) entries i t tape.from at)
-        (omega (arith, number, slice_get_within entries i t at, answers_count))
+        (omega (arith, number, slice_get_within entries i t at, entries_few))
         (all_at (λ (x : Taped (Named WrittenBlock)). Within (bounds first work.window work.most jobs) x.seen x.number) entries i t tape.within at));
   }
 

@@ -2,7 +2,7 @@
 use Rattle.std.proofs.Common.{◌≡◌, ◌≢◌, ◌∙◌, ◌<◌, ◌≤◌, ◌+◌, ◌-◌, ◌==◌, ℕ, zero, suc, true, false, List, [], ◌∷◌, length, map, take, drop, refl, ap, sym, subst, arith, inl, inr, Option, None, Some}
 use Rattle.std.specs.List.{All, slice_get}
 use Rattle.std.specs.Option.{option_map}
-use Rattle.std.proofs.lemmas.Bool.{cases_Bool, cond-false, cond-true, eqb-true}
+use Rattle.std.proofs.lemmas.Bool.{cases_Bool, cases_lt, cond-false, cond-true, eqb-true}
 use Rattle.std.proofs.lemmas.List.{take_all}
 use Rattle.std.proofs.lemmas.List.Elements.{All-cons, All-head, All-nil, All-tail}
 use Rattle.std.proofs.lemmas.Option.{none-some, same_Some, slice_get-map, slice_get_cases, slice_get_within}
@@ -22,7 +22,7 @@ use Rattle.jx_store.specs.declared.work.Named.TheVariants.{Made, Bad, Short}
 use Rattle.jx_workers.specs.Tapes.{answer_of, named_as}
 use Rattle.jx_plan.specs.Plan.{IsJob, IsPlan, Plan}
 use Rattle.jx_tier2_writer.specs.Tile.{AreMade, AreValuesOf, IsMade, StandIn, block_written, blocks_in, first_block, made_before, made_in}
-use Rattle.jx_rounds.specs.MadeRounds.{AreOfBlocks, IsFirstUnmade, IsUnmadeAs}
+use Rattle.jx_rounds.specs.MadeRounds.{AreOfBlocks, AreUpTo, IsFirstUnmade, IsUnmadeAs}
 use Rattle.jx_rounds.specs.Tiles.{IsWrongBlock}
 use Rattle.jx_rounds.specs.Rounds.{IsRightTile, IsWrongTile, blocks_of}
 use Rattle.jx_base.proofs.Lists.{all_at}
@@ -151,7 +151,7 @@ answer_at p first count i entries t are is =
     }
 
 -- ---- made entries and their blocks
-made_is : (n : Named WrittenBlock) → IsMade n → (r : WrittenBlock) × (n ≡ Made r)
+pub made_is : (n : Named WrittenBlock) → IsMade n → (r : WrittenBlock) × (n ≡ Made r)
 made_is (Made r) made = (r, refl)
 made_is (Bad number) never = absurd never
 made_is (Short number) never = absurd never
@@ -164,7 +164,7 @@ made_rest t ts each =
     let first = made_is t.named (All-head (λ (x : Taped (Named WrittenBlock)). IsMade x.named) t ts each) in
     (first.0, first.1, made_first t.named first.0 (made_in ts) first.1)
 
-made_later : (t : Taped (Named WrittenBlock)) (ts : List (Taped (Named WrittenBlock))) → AreMade (t ∷ ts) → AreMade ts
+pub made_later : (t : Taped (Named WrittenBlock)) (ts : List (Taped (Named WrittenBlock))) → AreMade (t ∷ ts) → AreMade ts
 made_later t ts each = All-tail (λ (x : Taped (Named WrittenBlock)). IsMade x.named) t ts each
 
 made_count : (entries : List (Taped (Named WrittenBlock))) → AreMade entries → length (made_in entries) ≡ length entries
@@ -189,6 +189,13 @@ made_at (t ∷ ts) (suc i) r each is =
     let first = made_rest t ts each in
     let later = made_at ts i r (made_later t ts each) (sym (ap (λ (xs : List WrittenBlock). slice_get xs (suc i)) first.2) ∙ is) in
     record { entry = later.entry; there = later.there; made = later.made }
+
+-- entries of which each is made are those of all blocks
+pub whole_of : (p : Plan) (first count : ℕ) (entries : List (Taped (Named WrittenBlock))) → AreUpTo p first count entries → AreMade entries → length entries ≡ count
+whole_of p first count entries are made = elim (cases_lt (length entries) count) [
+  | inl low ↦ absurd (are.short low made)
+  | inr high ↦ omega (arith, high, are.few)
+]
 
 -- ---- the blocks of a tile
 record IsMadeOf (p : Plan) (number : ℕ) (r : WrittenBlock) : Type 0 where
@@ -246,7 +253,7 @@ module _ (laws : BlockLaws) (p : Plan) (t count : ℕ) (entries : List (Taped (N
       let whole : AreMade (take count entries) = subst AreMade (sym (take_all count entries (omega (arith, are.count_is)))) made in
       right_below n count whole from (omega (arith, below, all)) (omega (arith, below, all)) wrong
 
-  pub tile_wrong : (number : ℕ) → IsFirstUnmade entries number → count ≡ blocks_in p t → IsWrongTile p t number
+  pub tile_wrong : (number : ℕ) → IsFirstUnmade entries number → count ≤ blocks_in p t → IsWrongTile p t number
   tile_wrong number first all =
       let at = answer_at p (first_block p t) count first.at entries first.entry are first.there in
       let own : IsOwn p (first_block p t + first.at) at.job = own_at p (first_block p t + first.at) at.job plan at.there in

@@ -34,6 +34,12 @@ pub record AreOfBlocks (p : Plan) (first count : ℕ) (entries : List (Taped (Na
   pub count_is : length entries ≡ count
   pub answers : map (λ (t : Taped (Named WrittenBlock)). t.named) entries ≡ map answer_of (take count (drop first p.jobs))
 
+-- what was made of the first of so many blocks, up to one of which nothing was made where there are fewer
+pub record AreUpTo (p : Plan) (first count : ℕ) (entries : List (Taped (Named WrittenBlock))) : Type 0 where
+  pub of : AreOfBlocks p first (length entries) entries
+  pub few : length entries ≤ count
+  pub short : length entries < count → AreMade entries → ⊥
+
 -- nothing was made of the block of a number
 abbrev pub IsUnmadeAs : Named WrittenBlock → ℕ → Type 0
 IsUnmadeAs named number = (named ≡ Bad number) ⊎ (named ≡ Short number)

@@ -6,8 +6,9 @@ ghost use Rattle.jx_base.specs.Pieces.{bytes_in, value_of};
 ghost use Rattle.jx_codeblock.specs.Jobs.{IsAsked};
 ghost use Rattle.jx_store.specs.declared.event.Taped.{Taped};
 ghost use Rattle.jx_store.specs.declared.work.Named.{Named};
-ghost use Rattle.jx_codeblock.specs.Recoded.{WrittenBlock};
-ghost use Rattle.jx_workers.specs.Tapes.{AreAsked, answer_of, size_of};
+ghost use Rattle.jx_codeblock.specs.Recoded.{WrittenBlock, is_bad};
+ghost use Rattle.jx_codeblock.specs.declared.job.Job.{Job as job_asked};
+ghost use Rattle.jx_workers.specs.Tapes.{AreAsked, answer_of, size_of, up_to_bad};
 ghost use Rattle.jx_options.specs.Work.{MayBeWork};
 ghost use Rattle.jx_rounds.specs.MadeRounds.{AreMadeAlone, AreUnshared, IsTapeFrom};
 
@@ -118,7 +119,18 @@ fn entry_of<'a, G: Gate>(
     })
 }
 
-/// Puts what is made of jobs one after another, on this thread, into an empty list.
+/// Whether nothing can be made of a job of which this was made.
+fn is_bad(entry: &Entry<Recoded<'_>>) -> bool
+    ensures { (j : job_asked) → entry.now.named ≡ answer_of j → result ≡ is_bad j }
+{
+    match &entry.named {
+        Named::Made(_) => false,
+        Named::Bad(_) => true,
+        Named::Short(_) => true,
+    }
+}
+
+/// Puts what is made of jobs one after another, on this thread, into an empty list, up to the first of which nothing can be made.
 #[tactic(auto, using(crate::proofs::TapedLemmas::alone_all))]
 fn put_alone<'a, G: Gate>(
     alloc: Global,
@@ -128,23 +140,27 @@ fn put_alone<'a, G: Gate>(
 ) -> Result<(), NoMemory>
     requires asked { All (λ j. IsAsked j.block.now j.style j.ends) jobs.now }
     requires empty { entries.old.items ≡ [] }
-    ensures { OnOk result (AreMadeAlone jobs.entry.now entries.new.items) }
+    ensures { OnOk result (AreMadeAlone (up_to_bad jobs.entry.now) entries.new.items) }
 {
     for job in jobs {
         let entry = entry_of(alloc, gate, job)?;
+        let is_last = is_bad(&entry);
         entries.push(entry)?;
+        if is_last {
+            return Ok(());
+        }
     }
     Ok(())
 }
 
-/// What is made of jobs one after another, on this thread.
+/// What is made of jobs one after another, on this thread, up to the first of which nothing can be made.
 fn made_alone<'a, G: Gate>(
     alloc: Global,
     gate: &G,
     jobs: &'a [Job<'a>],
 ) -> Result<Vec<Entry<Recoded<'a>>>, NoMemory>
     requires { All (λ j. IsAsked j.block.now j.style j.ends) jobs.now }
-    ensures { IfOk result (λ entries. AreMadeAlone jobs.entry.now entries.items) }
+    ensures { IfOk result (λ entries. AreMadeAlone (up_to_bad jobs.entry.now) entries.items) }
 {
     let mut entries = Vec::new(alloc);
     put_alone(alloc, gate, jobs, &mut entries)?;
@@ -178,7 +194,7 @@ fn made_by_workers<'a, R: Threads + Wait + Sync, G: Gate + Sync>(
     Ok(entries)
 }
 
-/// Makes of blocks what is asked of them, or finds that a segmentation symbol is wrong: by workers where one of them is coded anew and
+/// Makes of blocks what is asked of them, up to the first of which a segmentation symbol is wrong: by workers where one of them is coded anew and
 /// their pieces have at most 2^28 bytes, else one after another, by worker 0. `first` is the number of the first job.
 #[tactic(auto, using(crate::proofs::TapedLemmas::shared_none))]
 pub fn made_blocks<'a, R: Threads + Wait + Sync, G: Gate + Sync>(
@@ -191,7 +207,7 @@ pub fn made_blocks<'a, R: Threads + Wait + Sync, G: Gate + Sync>(
     requires count { first + length jobs.now ≤ 2 ^ 20 }
     requires work { MayBeWork crew.now.work }
     ensures tape { IfOk result (λ entries. IsTapeFrom jobs.entry.now first crew.now.work entries.items) }
-    ensures alone { IfOk result (λ entries. AreUnshared jobs.entry.now → AreMadeAlone jobs.entry.now entries.items) }
+    ensures alone { IfOk result (λ entries. AreUnshared jobs.entry.now → AreMadeAlone (up_to_bad jobs.entry.now) entries.items) }
 {
     numbers_count_up();
     if is_anew(jobs) && is_light(jobs) {

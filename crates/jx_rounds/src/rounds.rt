@@ -2,9 +2,9 @@
 
 ghost use Rattle.std.specs.Prelude.{◌≡◌, ◌<◌, ◌≤◌, ◌+◌, ◌^◌, ℕ, [], length, map, IfOk, IfErr, OnOk};
 ghost use Rattle.jx_codestream.specs.First.{tile_number};
-ghost use Rattle.jx_tier2_writer.specs.Tile.{blocks_in, first_block};
+ghost use Rattle.jx_tier2_writer.specs.Tile.{AreMade, blocks_in, first_block};
 ghost use Rattle.jx_options.specs.Work.{MayBeWork};
-ghost use Rattle.jx_rounds.specs.MadeRounds.{AreOfBlocks, IsExtent, TapesOn, entry_of, parts_of};
+ghost use Rattle.jx_rounds.specs.MadeRounds.{AreUpTo, IsExtent, TapesOn, entry_of, parts_of};
 ghost use Rattle.jx_rounds.specs.Rounds.{BeginsRound, EndsRound, IsPlace, IsUnmade, IsUnmadeTile, LeadOn};
 
 use crate::crew::{Crew, made_blocks};
@@ -86,7 +86,7 @@ fn extent_of(
     })
 }
 
-/// What is made of so many code-blocks from one on.
+/// What is made of so many code-blocks from one on, up to the first of which nothing can be made.
 fn round_blocks<'a, R: Threads + Wait + Sync, G: Gate + Sync>(
     crew: &Crew<'_, R, G>,
     alloc: Global,
@@ -97,15 +97,15 @@ fn round_blocks<'a, R: Threads + Wait + Sync, G: Gate + Sync>(
     requires within { first + count ≤ length making.now.jobs }
     requires few { first + count ≤ 2 ^ 20 }
     requires work { MayBeWork crew.now.work }
-    ensures tape { IfOk result (λ entries. TapesOn making.now crew.now.work first (first + count) (map entry_of entries.items)) }
-    ensures of { IfOk result (λ entries. AreOfBlocks making.now first count entries.items) }
+    ensures tape { IfOk result (λ entries. TapesOn making.now crew.now.work first (first + length entries.items) (map entry_of entries.items)) }
+    ensures of { IfOk result (λ entries. AreUpTo making.now first count entries.items) }
 {
     numbers_count_up();
     let jobs = making.jobs_from(first, count);
     made_blocks(crew, alloc, jobs, first)
 }
 
-/// Puts a tile that is ready to be written behind others, of whose code-blocks these are the entries.
+/// Puts a tile that is ready to be written behind others, of whose code-blocks these are the entries, or of the first of them.
 fn push_packed<'a, 'b>(
     alloc: Global,
     making: &Making<'a, '_>,
@@ -115,7 +115,8 @@ fn push_packed<'a, 'b>(
     tiles: &mut Vec<Packed<'a, 'b>>,
 ) -> Result<(), Halt>
     requires tile { tile < tile_number making.now.stream.siz }
-    requires entries { AreOfBlocks making.now (first_block making.now tile) (blocks_in making.now tile) entries.now }
+    requires entries { AreUpTo making.now (first_block making.now tile) (blocks_in making.now tile) entries.now }
+    ensures whole { OnOk result ((length entries.now ≡ blocks_in making.now tile) × AreMade entries.now) }
     ensures lead { OnOk result ((first : ℕ) → LeadOn making.now first tile (parts_of tiles.old.items) → LeadOn making.now first (tile + 1) (parts_of tiles.new.items)) }
     ensures unmade { IfErr result (λ h. IsUnmadeTile making.now tile h) }
 {
@@ -129,7 +130,8 @@ fn push_packed<'a, 'b>(
     Ok(())
 }
 
-/// Puts the tiles of a round that begins at a tile into an empty list, of whose code-blocks these are the entries.
+/// Puts the tiles of a round that begins at a tile into an empty list, of whose code-blocks these are the entries, or of the first of
+/// them.
 fn push_tiles<'a, 'b>(
     alloc: Global,
     making: &Making<'a, '_>,
@@ -141,9 +143,10 @@ fn push_tiles<'a, 'b>(
     requires extent { IsExtent making.now tile extent.now.counts.items extent.now.blocks }
     requires tile { extent.now.tile ≡ tile + length extent.now.counts.items }
     requires few { extent.now.blocks ≤ 2 ^ 20 }
-    requires entries { AreOfBlocks making.now (first_block making.now tile) extent.now.blocks entries.now }
+    requires entries { AreUpTo making.now (first_block making.now tile) extent.now.blocks entries.now }
     requires empty { tiles.old.items ≡ [] }
     ensures parts { OnOk result (LeadOn making.now tile extent.now.tile (parts_of tiles.new.items)) }
+    ensures whole { OnOk result (length entries.now ≡ extent.now.blocks) }
     ensures unmade { IfErr result (λ h. IsUnmade making.now tile h) }
 {
     let alone = extent.counts.len() == 1;
@@ -152,7 +155,8 @@ fn push_tiles<'a, 'b>(
         let count = extent.counts[(at - tile) as usize];
         let to = from + count as usize;
         let laid = alone || count >= MOST_BLOCKS;
-        match push_packed(alloc, making, at, &entries[from..to], laid, tiles) {
+        let end = to.min(entries.len());
+        match push_packed(alloc, making, at, &entries[from..end], laid, tiles) {
             Ok(()) => {}
             Err(halt) => return Err(halt),
         }
@@ -161,7 +165,8 @@ fn push_tiles<'a, 'b>(
     Ok(())
 }
 
-/// The tiles of a round that begins at a tile, of whose code-blocks these are the entries: each is ready to be written.
+/// The tiles of a round that begins at a tile, of whose code-blocks these are the entries, or of the first of them: each is ready to be
+/// written.
 pub fn packed_tiles<'a, 'b>(
     alloc: Global,
     making: &Making<'a, '_>,
@@ -172,8 +177,9 @@ pub fn packed_tiles<'a, 'b>(
     requires extent { IsExtent making.now tile extent.now.counts.items extent.now.blocks }
     requires tile { extent.now.tile ≡ tile + length extent.now.counts.items }
     requires few { extent.now.blocks ≤ 2 ^ 20 }
-    requires entries { AreOfBlocks making.now (first_block making.now tile) extent.now.blocks entries.now }
+    requires entries { AreUpTo making.now (first_block making.now tile) extent.now.blocks entries.now }
     ensures parts { IfOk result (λ tiles. LeadOn making.now tile extent.now.tile (parts_of tiles.items)) }
+    ensures whole { OnOk result (length entries.now ≡ extent.now.blocks) }
     ensures unmade { IfErr result (λ h. IsUnmade making.now tile h) }
 {
     let mut tiles = Vec::new(alloc);
@@ -198,11 +204,11 @@ pub fn made_round<'a, R: Threads + Wait + Sync, G: Gate + Sync>(
     ensures extent { IfOk result (λ r. IsExtent making.now tile r.extent.counts.items r.extent.blocks) }
     ensures tile { IfOk result (λ r. r.extent.tile ≡ tile + length r.extent.counts.items) }
     ensures few { IfOk result (λ r. r.extent.blocks ≤ 2 ^ 20) }
-    ensures entries { IfOk result (λ r. AreOfBlocks making.now block r.extent.blocks r.entries.items) }
+    ensures entries { IfOk result (λ r. AreUpTo making.now block r.extent.blocks r.entries.items) }
     ensures later { IfOk result (λ r. tile < r.extent.tile) }
     ensures place { IfOk result (λ r. IsPlace making.now r.extent.tile r.extent.block) }
     ensures ends { IfOk result (λ r. EndsRound making.now r.extent.tile) }
-    ensures tape { IfOk result (λ r. TapesOn making.now crew.now.work block r.extent.block (map entry_of r.entries.items)) }
+    ensures tape { IfOk result (λ r. TapesOn making.now crew.now.work block (block + length r.entries.items) (map entry_of r.entries.items)) }
 {
     let extent = extent_of(alloc, making, tile, block)?;
     match round_blocks(crew, alloc, making, block, extent.blocks) {

@@ -1,6 +1,6 @@
 //! A tile that is ready to be written.
 
-ghost use Rattle.std.specs.Prelude.{◌≡◌, ◌<◌, ◌+◌, Err, List, None, Some, map, IfErr, IfOk, IfSome};
+ghost use Rattle.std.specs.Prelude.{◌≡◌, ◌<◌, ◌+◌, Err, List, None, Some, length, map, IfErr, IfOk, IfSome, OnOk};
 ghost use Rattle.std.specs.List.{concat};
 ghost use Rattle.jx_codeblock.specs.Recoded.{WrittenBlock};
 ghost use Rattle.jx_store.specs.declared.event.Taped.{Taped};
@@ -8,7 +8,7 @@ ghost use Rattle.jx_store.specs.declared.work.Named.{Named};
 ghost use Rattle.jx_codestream.specs.First.{tile_number};
 ghost use Rattle.jx_base.specs.declared.pieces.Block.{Block};
 ghost use Rattle.jx_tier2_writer.specs.Tile.{AreMade, AreValuesOf, IsMade, IsTile, IsTooLong, StandIn, blocks_in, first_block, made_in};
-ghost use Rattle.jx_rounds.specs.MadeRounds.{AreOfBlocks, IsFirstUnmade, IsUnmadeAs};
+ghost use Rattle.jx_rounds.specs.MadeRounds.{AreUpTo, IsFirstUnmade, IsUnmadeAs};
 ghost use Rattle.jx_rounds.specs.Rounds.{IsUnmadeTile, LeadOn, most_of_part};
 
 use crate::halt::Halt;
@@ -71,7 +71,8 @@ fn pack_made<'a, 'b>(
     }
 }
 
-/// A tile that is ready to be written, of which these are the entries of its code-blocks: put together, where it is asked but for its
+/// A tile that is ready to be written, of which these are the entries of its code-blocks, or of the first of them, up to one of which
+/// nothing was made: put together, where it is asked but for its
 /// coded bytes.
 pub fn packed_tile<'a, 'b>(
     alloc: Global,
@@ -81,8 +82,9 @@ pub fn packed_tile<'a, 'b>(
     laid: bool,
 ) -> Result<Packed<'a, 'b>, Halt>
     requires tile { tile < tile_number making.now.stream.siz }
-    requires entries { AreOfBlocks making.now (first_block making.now tile) (blocks_in making.now tile) entries.now }
+    requires entries { AreUpTo making.now (first_block making.now tile) (blocks_in making.now tile) entries.now }
     ensures parts { IfOk result (λ out. LeadOn making.now tile (tile + 1) (map concat out)) }
+    ensures whole { OnOk result ((length entries.now ≡ blocks_in making.now tile) × AreMade entries.now) }
     ensures unmade { IfErr result (λ h. IsUnmadeTile making.now tile h) }
 {
     written_is_sound();

@@ -29,25 +29,44 @@ pub none_right : {X : Type 0} (p : X → Bool) (xs ys : List X) → find p (xs +
 none_right p xs ys e = none_second (find p xs) (find p ys) (sym (find-append p xs ys) ∙ e)
 
 -- ---- of lists under numbers
-pub joined_begins : {X : Type 0} (p : X → Bool) (f : ℕ → List X) → find p (joined f 0 0) ≡ None
-joined_begins p f = ap (find p) (joined_none f 0 0 (omega arith))
+pub from_begins : {X : Type 0} (p : X → Bool) (f : ℕ → List X) (a b : ℕ) → b ≤ a → find p (joined f a b) ≡ None
+from_begins p f a b le = ap (find p) (joined_none f a b le)
 
-pub joined_goes : {X : Type 0} (p : X → Bool) (f : ℕ → List X) (n : ℕ) → find p (joined f 0 n) ≡ None → find p (f n) ≡ None → find p (joined f 0 (n + 1)) ≡ None
-joined_goes p f n none here = ap (find p) (joined_next f 0 n (omega arith)) ∙ behind p (joined f 0 n) (f n) None none here
+pub from_goes : {X : Type 0} (p : X → Bool) (f : ℕ → List X) (a n : ℕ) → a ≤ n → find p (joined f a n) ≡ None → find p (f n) ≡ None → find p (joined f a (n + 1)) ≡ None
+from_goes p f a n le none here = ap (find p) (joined_next f a n le) ∙ behind p (joined f a n) (f n) None none here
 
-pub joined_stops : {X : Type 0} (p : X → Bool) (f : ℕ → List X) (n m : ℕ) (x : X) → find p (joined f 0 n) ≡ None → find p (f n) ≡ Some x → n < m → find p (joined f 0 m) ≡ Some x
-joined_stops p f n zero x none here lt = absurd (omega arith)
-joined_stops {X} p f n (suc m) x none here lt =
-    let next : joined f 0 (m + 1) ≡ joined f 0 m ++ f m = joined_next f 0 m (omega arith) in
-    let next' : joined f 0 (suc m) ≡ joined f 0 m ++ f m = rw add-one at next in
+pub from_stops : {X : Type 0} (p : X → Bool) (f : ℕ → List X) (a n m : ℕ) (x : X) → a ≤ n → find p (joined f a n) ≡ None → find p (f n) ≡ Some x → n < m → find p (joined f a m) ≡ Some x
+from_stops p f a n zero x le none here lt = absurd (omega arith)
+from_stops {X} p f a n (suc m) x le none here lt =
+    let next : joined f a (m + 1) ≡ joined f a m ++ f m = joined_next f a m (omega arith) in
+    let next' : joined f a (suc m) ≡ joined f a m ++ f m = rw add-one at next in
     elim (cases_lt n m) [
-      | inl earlier ↦ ap (find p) next' ∙ before p (joined f 0 m) (f m) x (joined_stops p f n m x none here earlier)
+      | inl earlier ↦ ap (find p) next' ∙ before p (joined f a m) (f m) x (from_stops p f a n m x le none here earlier)
       | inr last ↦
           let same : n ≡ m = omega arith in
-          let none' : find p (joined f 0 m) ≡ None = ap (λ k. find p (joined f 0 k)) (sym same) ∙ none in
+          let none' : find p (joined f a m) ≡ None = ap (λ k. find p (joined f a k)) (sym same) ∙ none in
           let here' : find p (f m) ≡ Some x = ap (λ k. find p (f k)) (sym same) ∙ here in
-          ap (find p) next' ∙ behind p (joined f 0 m) (f m) (Some x) none' here'
+          ap (find p) next' ∙ behind p (joined f a m) (f m) (Some x) none' here'
     ]
+
+-- after a loop
+pub from_ends : {X : Type 0} (p : X → Bool) (f : ℕ → List X) (a b n : ℕ) → b ≤ n → (a ≤ b → n ≤ b) → find p (joined f a n) ≡ None → find p (joined f a b) ≡ None
+from_ends p f a b n end within none = elim (cases_lt a b) [
+  | inl some ↦
+      let le : n ≤ b = within (omega arith) in
+      let e : n ≡ b = omega arith in
+      ap (λ k. find p (joined f a k)) (sym e) ∙ none
+  | inr empty ↦ from_begins p f a b empty
+]
+
+pub joined_begins : {X : Type 0} (p : X → Bool) (f : ℕ → List X) → find p (joined f 0 0) ≡ None
+joined_begins p f = from_begins p f 0 0 (omega arith)
+
+pub joined_goes : {X : Type 0} (p : X → Bool) (f : ℕ → List X) (n : ℕ) → find p (joined f 0 n) ≡ None → find p (f n) ≡ None → find p (joined f 0 (n + 1)) ≡ None
+joined_goes p f n none here = from_goes p f 0 n (omega arith) none here
+
+pub joined_stops : {X : Type 0} (p : X → Bool) (f : ℕ → List X) (n m : ℕ) (x : X) → find p (joined f 0 n) ≡ None → find p (f n) ≡ Some x → n < m → find p (joined f 0 m) ≡ Some x
+joined_stops p f n m x none here lt = from_stops p f 0 n m x (omega arith) none here lt
 
 -- each of them has none, where they have none together
 pub joined_each : {X : Type 0} (p : X → Bool) (f : ℕ → List X) (n m : ℕ) → find p (joined f 0 m) ≡ None → n < m → find p (f n) ≡ None
@@ -96,7 +115,7 @@ flat_ends p f (x ∷ xs) (suc n) le none =
     (flat_ends p f xs n (omega arith) (none_right p (f x) (flat_map f (take n xs)) none))
 
 -- ---- of items that are made of others
-map_one : {X Y : Type 0} (f : X → Y) (b : Bool) (x : X) (m : Option X) (n : Option Y) → n ≡ option_map f m → cond b (Some (f x)) n ≡ option_map f (cond b (Some x) m)
+pub map_one : {X Y : Type 0} (f : X → Y) (b : Bool) (x : X) (m : Option X) (n : Option Y) → n ≡ option_map f m → cond b (Some (f x)) n ≡ option_map f (cond b (Some x) m)
 map_one f true x m n e = refl
 map_one f false x m n e = e
 

@@ -2,12 +2,15 @@ mod BlockLemmas
 mod CellLemmas
 mod FieldLemmas
 mod FindLemmas
+mod RunLemmas
 mod HeaderLemmas
 mod OneLemmas
 mod PlaceLemmas
 mod SampleLemmas
+mod SayingLemmas
 mod SegmentLemmas
 mod SharedLemmas
 mod ShelfLemmas
+mod StepLemmas
 mod TileLemmas
 mod WithinLemmas

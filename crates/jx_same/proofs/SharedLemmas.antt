@@ -1,5 +1,5 @@
 -- Tiles whose headers say nothing of their components share what the main headers say.
-use Rattle.std.proofs.Common.{◌≡◌, ◌∙◌, ◌+◌, ◌<◌, ◌≤◌, ℕ, List, [], ◌∷◌, length, ap, refl, sym, subst, arith, Bool, true, false, ◌||◌, Option, None}
+use Rattle.std.proofs.Common.{◌≡◌, ◌∙◌, ◌+◌, ◌-◌, ◌<◌, ◌≤◌, ℕ, List, [], ◌∷◌, length, ap, refl, sym, subst, arith, Bool, true, false, ◌||◌, Option, None}
 use Rattle.std.specs.List.{find}
 use Rattle.jx_base.specs.declared.names.Band.{Band}
 use Rattle.jx_base.specs.declared.pieces.Block.{Block}
@@ -25,7 +25,7 @@ use Rattle.jx_plan.specs.Meaning.{component_of, meaning_of}
 use Rattle.jx_same.specs.declared.input.Input.{Input}
 use Rattle.jx_same.specs.Items.{block_items, coding_items, band_items, component_items, differs, resolution_items, step_items, tile_items}
 use Rattle.jx_same.specs.Shared.{AreBareAt, AreSameHeaders, AreSameMain, SameHeaders, gives_parameters, gives_some}
-use Rattle.jx_same.specs.Sides.{SideValue}
+use Rattle.jx_same.specs.Sides.{SideValue, meaning_in}
 use Rattle.jx_same.proofs.BlockLemmas.{shape_is}
 use Rattle.jx_same.proofs.FindLemmas.{behind, joined_all, joined_each}
 use Rattle.jx_same.proofs.OneLemmas.{coding_none, step_none}
@@ -126,9 +126,16 @@ module _ (s t : Stream) (x y : List Block) where
       (λ k d. absurd (let some : 0 < size_of (component_rect (rect_of_tile g) (shape_of g c)) = some_block (rect_of_tile g) (shape_of g c) r b k d in omega (arith, empty)))))))
 
 -- ---- of two inputs
-pub headers_beside : (i j : Input) (u v : SideValue) (t : ℕ) → u ≡ side_of i t → v ≡ side_of j t → AreSameHeaders i.stream.now j.stream.now t → AreSameHeaders u.stream v.stream u.tile
-headers_beside i j u v t own other same =
-    subst (λ (x : SideValue). AreSameHeaders x.stream v.stream x.tile) (sym own) (subst (λ (x : SideValue). AreSameHeaders i.stream.now x.stream t) (sym other) same)
+pub headers_beside : (P : Stream → Stream → ℕ → Type 0) (i j : Input) (u v : SideValue) (t : ℕ) → u ≡ side_of i t → v ≡ side_of j t → P i.stream.now j.stream.now t → P u.stream v.stream u.tile
+headers_beside P i j u v t own other same =
+    subst (λ (x : SideValue). P x.stream v.stream x.tile) (sym own) (subst (λ (x : SideValue). P i.stream.now x.stream t) (sym other) same)
+
+-- where no value of the tiles before a tile differs, the headers of the tile before it say the same
+pub headers_before : (i j : Input) (t : ℕ) → 0 < t → find (differs (meaning_in i) (meaning_in j)) (joined (tile_items i.stream.now) 0 t) ≡ None
+    → AreSameHeaders i.stream.now j.stream.now (t - 1)
+headers_before i j t some none =
+    headers_none i.stream.now j.stream.now i.blocks.now j.blocks.now (t - 1)
+    (joined_each (differs (meaning_in i) (meaning_in j)) (tile_items i.stream.now) (t - 1) t none (omega arith))
 
 -- ---- what is known after a tile
 pub known_after : (known bare : Bool) (P : Type 0) → (known ≡ true → P) → (bare ≡ true → P) → (known || bare) ≡ true → P

@@ -4,3 +4,5 @@ pub mod Within
 pub mod Sides
 pub mod Lists
 pub mod Shared
+pub mod Runs
+pub mod Sayings

@@ -2,47 +2,28 @@
 
 ghost use Rattle.std.specs.Prelude.{◌≡◌, ◌<◌, ◌≤◌, ◌+◌, find, length, IfOk};
 ghost use Rattle.jx_base.specs.Joined.{joined};
-ghost use Rattle.jx_base.specs.Places.{size_of};
-ghost use Rattle.jx_geom.specs.Geometry.{HasResolution, blocks_in, shape_of};
-ghost use Rattle.jx_same.specs.Items.{band_items, block_items, component_items, differs, resolution_items};
+ghost use Rattle.jx_geom.specs.Geometry.{HasResolution, shape_of};
+ghost use Rattle.jx_same.specs.Items.{band_items, component_items, differs, resolution_items};
 ghost use Rattle.jx_same.specs.Sides.{AreAligned, AreBeside, HasBandOf, geometry_at, meaning_at};
 
 use crate::Spot;
-use crate::blocks::compare_block;
 use crate::headers::{spot_of_band, spot_of_component, unlike_coding, unlike_step};
-use crate::shelf::Shelf;
+use crate::runs::compare_blocks;
 use crate::side::{BandName, Side};
 use jx_base::{Band, NoMemory};
 use std::alloc::Global;
-
-/// The first place of a band of which the coefficients differ, code-block by code-block.
-fn compare_blocks(
-    alloc: Global,
-    a: &Side<'_>,
-    b: &Side<'_>,
-    name: BandName,
-) -> Result<Option<Spot>, NoMemory>
-    requires aligned { AreAligned a.now b.now name.comp }
-    requires band { HasBandOf a.now name }
-    ensures { IfOk result (λ found. found ≡ find (differs (meaning_at a.now) (meaning_at b.now))
-        (joined (block_items (geometry_at a.now) name.comp name.res name.band) 0 (size_of (blocks_in (geometry_at a.now) name.comp name.res name.band)))) }
-{
-    let mut shelf = Shelf::new(alloc, b.columns(name, a));
-    for index in 0..a.count(name) {
-        if let Some(spot) = compare_block(alloc, a, b, &mut shelf, name, index)? {
-            return Ok(Some(spot));
-        }
-    }
-    Ok(None)
-}
+use std::thread::Threads;
 
 /// The first value of a band that differs: its step, then its coefficients.
-fn compare_band(
+fn compare_band<R: Threads + Sync>(
+    rt: &R,
     alloc: Global,
+    threads: u32,
     a: &Side<'_>,
     b: &Side<'_>,
     name: BandName,
 ) -> Result<Option<Spot>, NoMemory>
+    requires threads { (1 ≤ threads) × (threads ≤ 64) }
     requires aligned { AreAligned a.now b.now name.comp }
     requires band { HasBandOf a.now name }
     ensures { IfOk result (λ found. found ≡ find (differs (meaning_at a.now) (meaning_at b.now))
@@ -51,17 +32,20 @@ fn compare_band(
     if let Some(field) = unlike_step(a.step(name), b.step(name)) {
         return Ok(Some(spot_of_band(a.tile(), name, field)));
     }
-    compare_blocks(alloc, a, b, name)
+    compare_blocks(rt, alloc, threads, a, b, name)
 }
 
 /// The first value of a resolution that differs, band by band.
-fn compare_resolution(
+fn compare_resolution<R: Threads + Sync>(
+    rt: &R,
     alloc: Global,
+    threads: u32,
     a: &Side<'_>,
     b: &Side<'_>,
     comp: u16,
     res: u8,
 ) -> Result<Option<Spot>, NoMemory>
+    requires threads { (1 ≤ threads) × (threads ≤ 64) }
     requires aligned { AreAligned a.now b.now comp }
     requires res { HasResolution (geometry_at a.now) comp res }
     ensures { IfOk result (λ found. found ≡ find (differs (meaning_at a.now) (meaning_at b.now)) (resolution_items (geometry_at a.now) comp res)) }
@@ -73,7 +57,7 @@ fn compare_resolution(
             res,
             band: *band,
         };
-        if let Some(spot) = compare_band(alloc, a, b, name)? {
+        if let Some(spot) = compare_band(rt, alloc, threads, a, b, name)? {
             return Ok(Some(spot));
         }
     }
@@ -81,13 +65,16 @@ fn compare_resolution(
 }
 
 /// The first value of the resolutions of a tile-component that differs.
-fn compare_resolutions(
+fn compare_resolutions<R: Threads + Sync>(
+    rt: &R,
     alloc: Global,
+    threads: u32,
     a: &Side<'_>,
     b: &Side<'_>,
     comp: u16,
     levels: u8,
 ) -> Result<Option<Spot>, NoMemory>
+    requires threads { (1 ≤ threads) × (threads ≤ 64) }
     requires aligned { AreAligned a.now b.now comp }
     requires comp { comp < length a.now.stream.siz.comps }
     requires levels { levels ≡ (shape_of (geometry_at a.now) comp).levels }
@@ -95,7 +82,7 @@ fn compare_resolutions(
     ensures { IfOk result (λ found. found ≡ find (differs (meaning_at a.now) (meaning_at b.now)) (joined (resolution_items (geometry_at a.now) comp) 0 (levels + 1))) }
 {
     for res in 0..levels + 1 {
-        if let Some(spot) = compare_resolution(alloc, a, b, comp, res)? {
+        if let Some(spot) = compare_resolution(rt, alloc, threads, a, b, comp, res)? {
             return Ok(Some(spot));
         }
     }
@@ -107,12 +94,15 @@ fn compare_resolutions(
 /// # Errors
 ///
 /// `NoMemory` where memory is refused.
-pub(crate) fn compare_component(
+pub(crate) fn compare_component<R: Threads + Sync>(
+    rt: &R,
     alloc: Global,
+    threads: u32,
     a: &Side<'_>,
     b: &Side<'_>,
     comp: u16,
 ) -> Result<Option<Spot>, NoMemory>
+    requires threads { (1 ≤ threads) × (threads ≤ 64) }
     requires beside { AreBeside a.now b.now }
     requires comp { comp < length a.now.stream.siz.comps }
     ensures { IfOk result (λ found. found ≡ find (differs (meaning_at a.now) (meaning_at b.now)) (component_items (geometry_at a.now) comp)) }
@@ -120,5 +110,5 @@ pub(crate) fn compare_component(
     if let Some(field) = unlike_coding(&a.params(comp), &b.params(comp)) {
         return Ok(Some(spot_of_component(a.tile(), comp, field)));
     }
-    compare_resolutions(alloc, a, b, comp, a.levels(comp))
+    compare_resolutions(rt, alloc, threads, a, b, comp, a.levels(comp))
 }

@@ -1,7 +1,7 @@
 //! The coefficients of a code-block of one codestream, compared with those of the same places in the other.
 
-ghost use Rattle.std.specs.Prelude.{◌≡◌, ◌<◌, ℕ, find, IfOk, OnOk};
-ghost use Rattle.jx_base.specs.Places.{InRect, size_of};
+ghost use Rattle.std.specs.Prelude.{◌≡◌, ◌<◌, ◌+◌, ℕ, find, IfOk, OnOk};
+ghost use Rattle.jx_base.specs.Places.{InRect, column_at, row_at, size_of};
 ghost use Rattle.jx_geom.specs.Geometry.{band_in, blocks_in};
 ghost use Rattle.jx_same.specs.declared.answer.Field.TheVariants as field;
 ghost use Rattle.jx_same.specs.Items.{block_items, coef_items, differs};
@@ -11,7 +11,7 @@ use crate::decoded::{Decoded, are_alike};
 use crate::shelf::Shelf;
 use crate::side::{BandName, Side};
 use crate::{Field, Spot};
-use jx_base::NoMemory;
+use jx_base::{NoMemory, Rect};
 use std::alloc::Global;
 
 /// The spot of a coefficient.
@@ -27,6 +27,18 @@ fn spot_of(tile: u16, name: BandName, x: u32, y: u32) -> Spot
         x,
         y,
     }
+}
+
+/// The place after another one of a rect, row by row; below the last one it is no place of the rect.
+#[tactic(auto, using(crate::proofs::StepLemmas::next_across, crate::proofs::StepLemmas::next_down))]
+fn place_after(rect: Rect, x: u32, y: u32) -> (u32, u32)
+    requires { InRect rect x y }
+    ensures { (n : ℕ) → x ≡ column_at rect n → y ≡ row_at rect n → (result.0 ≡ column_at rect (n + 1)) × (result.1 ≡ row_at rect (n + 1)) }
+{
+    if x + 1 < rect.x.high {
+        return (x + 1, y);
+    }
+    (rect.x.low, y + 1)
 }
 
 /// The first place of a code-block of which the coefficients differ, row by row. Code-blocks of the other codestream come from a shelf.
@@ -47,11 +59,13 @@ fn compare_places<'a>(
     ensures shelf { OnOk result (AreOnShelf b.now name shelf.new) }
 {
     let rect = block.rect();
-    for number in 0..rect.area() {
-        let (x, y) = rect.place(number);
+    let mut x = rect.x.low;
+    let mut y = rect.y.low;
+    for _number in 0..rect.area() {
         if !shelf.agrees(alloc, block, b, name, x, y)? {
             return Ok(Some(spot_of(a.tile(), name, x, y)));
         }
+        (x, y) = place_after(rect, x, y);
     }
     Ok(None)
 }

@@ -7,6 +7,8 @@ mod blocks;
 mod decoded;
 mod headers;
 mod input;
+mod runs;
+mod sayings;
 mod segments;
 mod shelf;
 mod side;

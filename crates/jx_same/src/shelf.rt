@@ -86,7 +86,8 @@ impl<'a> Shelf<'a> {
     fn slot(&self, x: u32) -> usize
         ensures { result < 2 ^ 32 }
     {
-        ((x >> self.columns.across) % self.columns.count) as usize
+        // the count is a power of two
+        ((x >> self.columns.across) & (self.columns.count - 1)) as usize
     }
 
     /// Whether a code-block that has a place of a band has the coefficient there that a codestream has: sign, magnitude bits and

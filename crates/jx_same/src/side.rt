@@ -171,6 +171,14 @@ impl<'a> Side<'a> {
         geom.number()
     }
 
+    /// The codestream.
+    pub(crate) fn stream(&self) -> &Stream
+        ensures { result.now ≡ self.now.stream }
+    {
+        let (stream, _, _) = self.frame.parts();
+        stream
+    }
+
     /// How many components there are, 1 to 16,384.
     pub(crate) fn comps(&self) -> u16
         ensures { result ≡ length self.now.stream.siz.comps }

@@ -1,6 +1,6 @@
 //! Pairs of codestreams, and what is told of them.
 
-ghost use Rattle.std.specs.Prelude.{IfSome};
+ghost use Rattle.std.specs.Prelude.{◌≤◌, IfSome};
 ghost use Rattle.jx_plan.specs.Plan.{MayBePlanned};
 
 use crate::checks::equal_at;
@@ -11,6 +11,7 @@ use jx_same::{Answer, Field, Spot, compare};
 use jx_tier2_reader::gather;
 use std::alloc::Global;
 use std::test::Fail;
+use std::thread::Threads;
 
 // SOC and SIZ up to the components, of one place in one tile, of two places in two tiles, and of 8 by 8 places.
 const ONE: &str =
@@ -254,12 +255,20 @@ fn input<'a>(alloc: Global, file: &'a [u8]) -> Option<(Stream, Vec<Block<'a>>)>
     Some((stream, blocks))
 }
 
-// What is told of two files; none where one of them is refused.
-fn answer(alloc: Global, a: &Parts, b: &Parts) -> Option<Answer> {
+// What is told of two files by so many threads; none where one of them is refused.
+fn answer<R: Threads + Sync>(
+    rt: &R,
+    alloc: Global,
+    threads: u32,
+    a: &Parts,
+    b: &Parts,
+) -> Option<Answer>
+    requires { (1 ≤ threads) × (threads ≤ 64) }
+{
     let (first, second) = (file_of(alloc, a)?, file_of(alloc, b)?);
     let (sa, ba) = input(alloc, &first)?;
     let (sb, bb) = input(alloc, &second)?;
-    compare(alloc, &sa, &ba, &sb, &bb).ok()
+    compare(rt, alloc, threads, &sa, &ba, &sb, &bb).ok()
 }
 
 // A value of the first tile and component, at the first place.
@@ -282,7 +291,10 @@ fn first_values_that_differ(rt: HostRuntime) -> Result<(), Fail> {
             None => Answer::Same,
             Some(field) => at_first(*field),
         };
-        equal_at(&rt, &number, answer(rt.alloc(), a, b), Some(want));
+        for threads in [1, 2, 64] {
+            let found = answer(&rt, rt.alloc(), threads, a, b);
+            equal_at(&rt, &(number, threads), found, Some(want));
+        }
     }
     Ok(())
 }
@@ -327,7 +339,7 @@ fn other_spots(rt: HostRuntime) -> Result<(), Fail> {
         ),
     ];
     for (number, (a, b, want)) in rows.iter().enumerate() {
-        let found = answer(rt.alloc(), a, b);
+        let found = answer(&rt, rt.alloc(), 3, a, b);
         equal_at(&rt, &number, found, Some(Answer::Differs(*want)));
     }
     Ok(())

@@ -1,3 +1,6 @@
+pub mod Facts
+pub mod File
+-- Inner: no other crate cites these.
 pub mod Text
 pub mod Orders
-pub mod Facts
+pub mod Json

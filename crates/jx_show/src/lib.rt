@@ -5,6 +5,7 @@ mod bytes;
 mod counts;
 mod fact;
 mod headers;
+mod json;
 mod lines;
 mod orders;
 mod picture;
@@ -14,4 +15,4 @@ mod words;
 
 pub use fact::{About, Fact, Name, Value, Word};
 pub use lines::text_of;
-pub use whole::{facts_of, show};
+pub use whole::{facts_of, show, show_file};

@@ -20,7 +20,7 @@ fn push_part(text: &mut String, words: &str, part: Option<usize>) -> Result<(), 
 }
 
 /// Appends of what a fact is told.
-fn push_about(text: &mut String, about: About) -> Result<(), AllocError>
+pub(crate) fn push_about(text: &mut String, about: About) -> Result<(), AllocError>
     ensures { OnOk result (string_bytes text.new ≡ string_bytes text.old ++ about_text about) }
 {
     push_part(text, " ", about.number)?;
@@ -121,6 +121,16 @@ fn push_fact(text: &mut String, fact: &Fact) -> Result<(), AllocError>
     text.push_str("\n")
 }
 
+/// Appends the lines of facts.
+pub(crate) fn push_lines(text: &mut String, facts: &[Fact]) -> Result<(), AllocError>
+    ensures { OnOk result (string_bytes text.new ≡ string_bytes text.old ++ text_of facts.now) }
+{
+    for fact in facts {
+        push_fact(text, fact)?;
+    }
+    Ok(())
+}
+
 /// The text of facts: a line for each, of its name, of what it is told, a colon and its value.
 ///
 /// # Errors
@@ -130,8 +140,6 @@ pub fn text_of(alloc: Global, facts: &[Fact]) -> Result<String, NoMemory>
     ensures { IfOk result (λ text. string_bytes text ≡ text_of facts.now) }
 {
     let mut text = String::new(alloc);
-    for fact in facts {
-        push_fact(&mut text, fact)?;
-    }
+    push_lines(&mut text, facts)?;
     Ok(text)
 }

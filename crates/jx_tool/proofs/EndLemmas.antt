@@ -20,7 +20,7 @@ unbegun words rule files said = outcome_memory words rule status.NoMemory 0 0 fi
 -- no count rose, and there was no memory
 counted_unbegun : (words : List Text) (read wrote say : ℕ) → AreCounted words status.NoMemory read read wrote wrote say say
 counted_unbegun words read wrote say =
-    record { read = λ e. absurd (cc); write = λ e. absurd (cc); read_rose = λ less. absurd (omega (arith, less)); write_rose = λ less. absurd (omega (arith, less)); unsaid = λ less. absurd (omega (arith, less)); complete = λ a b c. inr refl; idle = λ a b d. refl; unwritten = λ e. refl }
+    record { read = λ e. absurd (cc); write = λ e. absurd (cc); read_rose = λ less. absurd (omega (arith, less)); write_rose = λ less. absurd (omega (arith, less)); unsaid = λ less. absurd (omega (arith, less)); complete = λ a b c. inr refl; idle = λ a b d e. refl; unwritten = λ e. refl }
 
 pub ended_unbegun : (words : List Text) (rule : List ℕ → StreamFacts → Option Rule) (s : Status) (number : ℕ) (files : Meaning) (said : Option (List ℕ)) (read wrote say : ℕ)
     → s ≡ status.NoMemory → number ≡ number_of s → IsEnded words rule number files files said said read read wrote wrote say say

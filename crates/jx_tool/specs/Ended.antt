@@ -13,6 +13,7 @@ use Rattle.jx_transcode.specs.declared.status.Status.TheVariants as ending
 use Rattle.jx_rounds.specs.declared.tape.TapeEntry.{TapeEntry}
 use Rattle.jx_cli.specs.BoxesWords.{is_boxes}
 use Rattle.jx_cli.specs.SameWords.{is_same}
+use Rattle.jx_cli.specs.ShowWords.{is_show}
 use Rattle.jx_cli.specs.Words.{Text, is_good}
 use Rattle.jx_messages.specs.Help.{asks_help}
 use Rattle.jx_messages.specs.Text.{EndsLine}
@@ -32,7 +33,7 @@ pub record AreCounted (words : List Text) (s : Status) (reads reads_now writes w
   pub write_rose : writes < writes_now → s ≡ ending.WriteFault
   pub unsaid : says < says_now → s ≡ ending.WriteFault
   pub complete : (Rose reads reads_now → ⊥) → (Rose writes writes_now → ⊥) → (Rose says says_now → ⊥) → IsVerdict s ⊎ (s ≡ ending.NoMemory)
-  pub idle : is_good words ≡ false → is_boxes words ≡ false → is_same words ≡ false → reads_now ≡ reads
+  pub idle : is_good words ≡ false → is_boxes words ≡ false → is_same words ≡ false → is_show words ≡ false → reads_now ≡ reads
   pub unwritten : is_good words ≡ false → writes_now ≡ writes
 
 -- the number is that of a status with which a run over these words ends

@@ -7,6 +7,7 @@ ghost use Rattle.std.specs.Vec.Iter.{into_iter_items};
 ghost use Rattle.jx_plan.specs.Planned.{chosen};
 ghost use Rattle.jx_cli.specs.BoxesWords.{boxes_of, is_boxes};
 ghost use Rattle.jx_cli.specs.SameWords.{is_same, same_of};
+ghost use Rattle.jx_cli.specs.ShowWords.{is_show, show_of};
 ghost use Rattle.jx_cli.specs.Words.{is_good, request_of};
 ghost use Rattle.jx_tool.specs.Ended.{IsEnded, IsHelped, IsEndedBySome, IsSaid, TellsUnsaid, words_in};
 
@@ -202,6 +203,7 @@ fn end_of<R: Threads + Wait + Sync + Eprint + Clock, F: Files + TellsFault, S: S
     requires lists { is_boxes (words_in args) ≡ true → F.can_open files.old (boxes_of (words_in args)) }
     requires compares { is_same (words_in args) ≡ true
         → F.can_open files.old (same_of (words_in args)).first × F.can_open files.old (same_of (words_in args)).second }
+    requires shows { is_show (words_in args) ≡ true → F.can_open files.old (show_of (words_in args)).name }
     requires creates { is_good (words_in args) ≡ true → F.can_create files.old (request_of (words_in args)).to }
     ensures { IsEnded (words_in args) (λ text facts. chosen (λ b. serves_text b text) (λ b. rule_of b text facts) planners.items) (exit_status result) (F.meaning files.old) (F.meaning files.new) (S.said say.old) (S.said say.new) (F.read_faults files.old) (F.read_faults files.new) (F.write_faults files.old) (F.write_faults files.new) (S.faults say.old) (S.faults say.new)
         ⊎ IsHelped (words_in args) (exit_status result) (F.meaning files.old) (F.meaning files.new) (S.said say.old) (S.said say.new) (F.read_faults files.old) (F.read_faults files.new) (F.write_faults files.old) (F.write_faults files.new) (S.faults say.old) (S.faults say.new) }
@@ -240,6 +242,7 @@ pub(crate) fn start<
     requires lists { is_boxes (words_in args) ≡ true → F.can_open files.old (boxes_of (words_in args)) }
     requires compares { is_same (words_in args) ≡ true
         → F.can_open files.old (same_of (words_in args)).first × F.can_open files.old (same_of (words_in args)).second }
+    requires shows { is_show (words_in args) ≡ true → F.can_open files.old (show_of (words_in args)).name }
     requires creates { is_good (words_in args) ≡ true → F.can_create files.old (request_of (words_in args)).to }
     ensures ended { IfOk result (λ end. IsEndedBySome (words_in args) (exit_status end) (F.meaning files.old) (F.meaning files.new) (S.said say.old) (S.said say.new) (F.read_faults files.old) (F.read_faults files.new) (F.write_faults files.old) (F.write_faults files.new) (S.faults say.old) (S.faults say.new)
         ⊎ IsHelped (words_in args) (exit_status end) (F.meaning files.old) (F.meaning files.new) (S.said say.old) (S.said say.new) (F.read_faults files.old) (F.read_faults files.new) (F.write_faults files.old) (F.write_faults files.new) (S.faults say.old) (S.faults say.new)) }

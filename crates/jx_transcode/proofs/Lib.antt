@@ -3,6 +3,8 @@ mod ReadLemmas
 mod SaidLemmas
 mod JudgeLemmas
 mod SameLemmas
+mod SameVerdictLemmas
+mod SomeSameLemmas
 mod KeptSameLemmas
 mod SamplingLemmas
 mod FiledLemmas
@@ -24,7 +26,9 @@ mod SomeVerdictLemmas
 mod StatusLemmas
 mod WrongLemmas
 mod MakeLemmas
+mod LinesLemmas
 mod BoxesLemmas
+mod ShowLemmas
 mod BoxesVerdictLemmas
 pub mod RunLemmas
 mod AcceptedLemmas

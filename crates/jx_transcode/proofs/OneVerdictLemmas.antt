@@ -72,7 +72,7 @@ reads_on laws input s blocks f short reads (inr breaks) =
     let few : length input ≤ 2 ^ 28 = short in
     laws.gathered input s blocks f reads.read (omega arith) reads.totals reads.gathered broken
 
-one_reading : Laws → (input : List ℕ) (s t : Stream) (blocks others : List Block) → length input ≤ most_bytes → Reads input s blocks → Reads input t others → (t ≡ s) × (others ≡ blocks)
+pub one_reading : Laws → (input : List ℕ) (s t : Stream) (blocks others : List Block) → length input ≤ most_bytes → Reads input s blocks → Reads input t others → (t ≡ s) × (others ≡ blocks)
 one_reading laws input s t blocks others short reads again =
     let one : t ≡ s = laws.one_stream input t s again.read.spelled reads.read.spelled in
     let same : IsGathered input s others = subst (λ (x : Stream). IsGathered input x others) one again.gathered in

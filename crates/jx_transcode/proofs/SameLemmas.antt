@@ -24,7 +24,7 @@ pub record IsUnfitInput (held : Option (List ℕ)) (s : Status) : Type 0 where
   pub told : IfSome held (λ bytes. input ≡ bytes)
   pub is : IsUnfit input s
 
-unfit_told : (held : Option (List ℕ)) (read : List ℕ) (s : Status) → IsFront held read → IsUnfit read s → IsUnfitInput held s
+pub unfit_told : (held : Option (List ℕ)) (read : List ℕ) (s : Status) → IsFront held read → IsUnfit read s → IsUnfitInput held s
 unfit_told held read (status.Rule number place) front is = record { input = read; told = short_told held read front is.0; is = is }
 unfit_told held read (status.Limit number found) front (inl long) =
     record { input = whole held read; told = told_whole held read; is = inl (long_whole held read front long.0, long.1, long.2) }

@@ -1,11 +1,12 @@
 -- How a run of `boxes` ends: the boxes of a JP2 file are said, a line each, or one line says why they can't be (ITU-T T.800, I.4).
-use Rattle.std.specs.Prelude.{◌≡◌, ◌⊎◌, ◌<◌, ◌≤◌, ℕ, ◌+◌, List, [], length, Option, IfSome}
-use Rattle.jx_io.specs.Device.{Meaning, joined}
+use Rattle.std.specs.Prelude.{◌≡◌, ◌⊎◌, ◌<◌, ◌≤◌, ℕ, ◌+◌, List, length, Option}
+use Rattle.jx_io.specs.Device.{Meaning}
 use Rattle.jx_cli.specs.Words.{Text}
 use Rattle.jx_jp2.specs.Codestream.{IsJp2}
 use Rattle.jx_jp2.specs.Lines.{HasLines}
 use Rattle.jx_jp2.specs.Trees.{IsTree, IsTreeBroken, Tree}
-use Rattle.jx_transcode.specs.Outcome.{IsUntouched, IsVerdict, Says, line_of, most_bytes}
+use Rattle.jx_transcode.specs.LinesRun.{EndsInLines}
+use Rattle.jx_transcode.specs.Outcome.{most_bytes}
 use Rattle.jx_transcode.specs.declared.status.Status.{Status}
 use Rattle.jx_transcode.specs.declared.status.Status.TheVariants as status
 use Rattle.jx_rounds.specs.declared.tape.TapeEntry.{TapeEntry}
@@ -27,19 +28,9 @@ BoxesVerdict input status.ReadFault = ⊥
 BoxesVerdict input status.WriteFault = ⊥
 BoxesVerdict input status.NoMemory = ⊥
 
--- how a run over good words of `boxes` ends on an input, which is what the file of that name holds, where that is told
-pub record EndsListed (name : Text) (s : Status) (blocks : ℕ) (entries : List TapeEntry) (old new : Meaning) (before now : Option (List ℕ)) : Type 0 where
-  pub input : List ℕ
-  pub told : IfSome (joined (old.holds name)) (λ bytes. input ≡ bytes)
-  pub verdict : IsVerdict s → BoxesVerdict input s
-  -- what is said: the lines of all boxes after Done, else the status's line
-  pub text : List ℕ
-  pub lines : s ≡ status.Done → HasLines input text
-  pub line : (s ≡ status.Done → ⊥) → text ≡ line_of s 0 0
-  pub said : Says s text before now
-  pub files : IsUntouched old new
-  pub none : blocks ≡ 0
-  pub tape : entries ≡ []
+-- how a run over good words of `boxes` ends: after Done the lines of all boxes are said
+abbrev pub EndsListed : Text → Status → ℕ → List TapeEntry → Meaning → Meaning → Option (List ℕ) → Option (List ℕ) → Type 0
+EndsListed = EndsInLines BoxesVerdict HasLines
 
 -- ---- inner: what is known of the bytes that were read, before anything is said
 

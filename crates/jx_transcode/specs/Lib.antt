@@ -7,9 +7,11 @@ pub mod RunTapes
 pub mod Commands
 pub mod TranscodeRun
 pub mod MakeRun
+pub mod LinesRun
 pub mod BoxesRun
 pub mod SameLines
 pub mod SameRun
+pub mod ShowRun
 pub mod Jp2Run
 pub mod Progress
 pub mod Judged

@@ -6,10 +6,13 @@ ghost use Rattle.jx_transcode.specs.Commands.{AskNothing, Asks, MayBeDone};
 pub mod boxes;
 pub mod make;
 pub mod same;
+pub mod show;
 pub mod transcode;
 
 use jx_cli::laws::commands_are_apart;
-use jx_cli::{Pair, Request, WordsFault, read_boxes, read_make, read_same, read_words};
+use jx_cli::{
+    Pair, Request, Show, WordsFault, read_boxes, read_make, read_same, read_show, read_words,
+};
 use std::alloc::Global;
 
 /// What words ask for.
@@ -23,6 +26,8 @@ pub enum Command {
     Boxes(String),
     /// The codestreams of two files are compared.
     Same(Pair),
+    /// It is said what the codestream of a file is.
+    Show(Show),
 }
 
 /// Reads the words of the command line, the program's name among them.
@@ -57,7 +62,12 @@ pub fn read_command(alloc: Global, words: &[String]) -> Result<Command, WordsFau
         Err(WordsFault::NoMemory) => return Err(WordsFault::NoMemory),
     }
     match read_same(alloc, words) {
-        Ok(names) => Ok(Command::Same(names)),
+        Ok(names) => return Ok(Command::Same(names)),
+        Err(WordsFault::Words) => {}
+        Err(WordsFault::NoMemory) => return Err(WordsFault::NoMemory),
+    }
+    match read_show(alloc, words) {
+        Ok(asked) => Ok(Command::Show(asked)),
         Err(fault) => Err(fault),
     }
 }

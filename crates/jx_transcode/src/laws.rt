@@ -110,6 +110,24 @@ pub fn boxes_have_one_verdict()
     some_tree();
 }
 
+/// Two files have a verdict under `same`, and one alone.
+pub fn same_has_one_verdict()
+    ensures one { (first second : List ℕ) (s t : Status) → SameVerdict first second s → SameVerdict first second t → s ≡ t }
+    ensures some { (first second : List ℕ) → AreBytes first → AreBytes second → (s : Status) × SameVerdict first second s }
+{
+    one_stream();
+    one_first();
+    violated_or_spelled();
+    one_violation();
+    one_gathering();
+    never_both();
+    one_answer();
+    one_output();
+    one_codestream();
+    one_file_verdict();
+    some_file_verdict();
+}
+
 /// With 0 all that was read of an input is left of it: the headline speaks of the input as it is.
 pub fn all_is_left()
     ensures left { (input : List ℕ) (s : Stream) (blocks : List Block) → length input ≤ most_bytes → Reads input s blocks → ReadsLeft 0 input s blocks }

@@ -5,6 +5,7 @@ ghost use Rattle.jx_plan.specs.Planned.{chosen};
 ghost use Rattle.jx_io.specs.Causes.{Rose};
 ghost use Rattle.jx_cli.specs.BoxesWords.{boxes_of, is_boxes};
 ghost use Rattle.jx_cli.specs.SameWords.{is_same, same_of};
+ghost use Rattle.jx_cli.specs.ShowWords.{is_show, show_of};
 ghost use Rattle.jx_cli.specs.Words.{is_good, request_of};
 ghost use Rattle.jx_transcode.specs.Misfits.{TellsMisfit};
 ghost use Rattle.jx_transcode.specs.Outcome.{EndsAsReadFault, IsVerdict};
@@ -12,7 +13,7 @@ ghost use Rattle.jx_transcode.specs.Runs.{Outcome};
 ghost use Rattle.jx_transcode.specs.SameRun.{IsOfFirst};
 ghost use Rattle.jx_transcode.specs.TranscodeRun.{TellsPositions};
 
-use crate::commands::{Command, boxes, make, read_command, same, transcode};
+use crate::commands::{Command, boxes, make, read_command, same, show, transcode};
 use crate::say::refuse;
 use crate::{Report, Status};
 use jx_cli::{Make, WordsFault};
@@ -22,7 +23,7 @@ use std::alloc::Global;
 use std::sync::Wait;
 use std::thread::Threads;
 
-/// Does what the words ask for, and says one line; `boxes` one for each box.
+/// Does what the words ask for, and says one line; `boxes` one for each box, `show` one for each fact.
 ///
 /// `words` begin with the program's name, and name the command. Those of `transcode` name IN, OUT and its options: IN is read
 /// to its end, or to one byte past the most that an input may have, and OUT is created once the whole
@@ -36,7 +37,10 @@ use std::thread::Threads;
 /// Those of `boxes` name a JP2 file, whose boxes are said in lines.
 ///
 /// Those of `same` name two files, either of which may be a JP2 file. The first is read and judged, then the second is opened, read and
-/// judged, and the line says whether their codestreams mean the same, or the first value in which they differ.
+/// judged, and the line says whether their codestreams mean the same, or the first value in which they differ. Code-blocks are compared by
+/// as many threads as the words ask for.
+///
+/// Those of `show` name a file, which may be a JP2 file. It is read and judged, and the lines or the JSON object say what its codestream is.
 ///
 /// The code-blocks of a round of which some are coded anew are made by as many workers as the words ask for, inside both windows;
 /// `gate` is told of each of them. What is written doesn't depend on them.
@@ -53,6 +57,7 @@ pub fn run<R: Threads + Wait + Sync, F: Files, S: Sink, G: Gate + Sync>(
     requires lists { is_boxes (map string_bytes words.now) ≡ true → F.can_open files.old (boxes_of (map string_bytes words.now)) }
     requires compares { is_same (map string_bytes words.now) ≡ true
         → F.can_open files.old (same_of (map string_bytes words.now)).first × F.can_open files.old (same_of (map string_bytes words.now)).second }
+    requires shows { is_show (map string_bytes words.now) ≡ true → F.can_open files.old (show_of (map string_bytes words.now)).name }
     requires creates { is_good (map string_bytes words.now) ≡ true → F.can_create files.old (request_of (map string_bytes words.now)).to }
     ensures outcome { Outcome (map string_bytes words.now) (λ text facts. chosen (λ b. serves_text b text) (λ b. rule_of b text facts) planners.items) result.status result.blocks result.tape.items (F.meaning files.old) (F.meaning files.new) (S.said say.old) (S.said say.new) }
     ensures read { result.status ≡ Status.ReadFault → Rose (F.read_faults files.old) (F.read_faults files.new) }
@@ -68,6 +73,8 @@ pub fn run<R: Threads + Wait + Sync, F: Files, S: Sink, G: Gate + Sync>(
     // the second is opened once the first is accepted
     ensures unfound_too { is_same (map string_bytes words.now) ≡ true → (F.meaning files.old).holds (same_of (map string_bytes words.now)).second ≡ Some None
         → EndsAsReadFault result.status (S.faults say.old) (S.faults say.new) ⊎ IsOfFirst result.status }
+    ensures unshown { is_show (map string_bytes words.now) ≡ true → (F.meaning files.old).holds (show_of (map string_bytes words.now)).name ≡ Some None
+        → EndsAsReadFault result.status (S.faults say.old) (S.faults say.new) }
     // a call of the files that failed
     ensures read_rose { F.read_faults files.old < F.read_faults files.new → EndsAsReadFault result.status (S.faults say.old) (S.faults say.new) }
     ensures write_rose { F.write_faults files.old < F.write_faults files.new → result.status ≡ Status.WriteFault }
@@ -79,7 +86,7 @@ pub fn run<R: Threads + Wait + Sync, F: Files, S: Sink, G: Gate + Sync>(
         → (Rose (S.faults say.old) (S.faults say.new) → ⊥)
         → IsVerdict result.status ⊎ (result.status ≡ Status.NoMemory) }
     ensures idle { is_good (map string_bytes words.now) ≡ false → is_boxes (map string_bytes words.now) ≡ false → is_same (map string_bytes words.now) ≡ false
-        → F.read_faults files.new ≡ F.read_faults files.old }
+        → is_show (map string_bytes words.now) ≡ false → F.read_faults files.new ≡ F.read_faults files.old }
     // whether boxes that hold positions in the file were kept
     ensures positions { is_good (map string_bytes words.now) ≡ true → TellsPositions (request_of (map string_bytes words.now)) result.positions result.status (F.meaning files.old) }
     ensures none { is_good (map string_bytes words.now) ≡ false → result.positions ≡ false }
@@ -106,7 +113,8 @@ pub fn run<R: Threads + Wait + Sync, F: Files, S: Sink, G: Gate + Sync>(
             make::run(rt, alloc, asked, say, gate, &mut planners)
         }
         Ok(Command::Boxes(name)) => boxes::run(alloc, name.as_str(), files, say),
-        Ok(Command::Same(names)) => same::run(alloc, &names, files, say),
+        Ok(Command::Same(names)) => same::run(rt, alloc, &names, files, say),
+        Ok(Command::Show(asked)) => show::run(alloc, &asked, files, say),
         Err(WordsFault::Words) => refuse(alloc, say, Status::Words),
         Err(WordsFault::NoMemory) => refuse(alloc, say, Status::NoMemory),
     }

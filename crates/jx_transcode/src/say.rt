@@ -1,4 +1,4 @@
-//! What is said of a run: one line, or nothing.
+//! What is said of a run: one line, several, or nothing.
 
 ghost use Rattle.std.specs.Prelude.{◌≡◌, ◌⊎◌, ◌<◌, [], false, None};
 ghost use Rattle.jx_io.specs.Causes.{Rose};
@@ -37,6 +37,23 @@ pub fn refuse<S: Sink>(alloc: Global, say: &mut S, status: Status) -> Report
     };
     Report {
         status,
+        blocks: 0,
+        tape: Vec::new(alloc),
+        positions: false,
+        misfit: None,
+    }
+}
+
+/// Says lines, after which all is done.
+pub fn say_lines<S: Sink>(alloc: Global, say: &mut S, lines: &str) -> Report
+    ensures says { EndsAs Status.Done lines.now result.status (S.said say.old) (S.said say.new) (S.faults say.old) (S.faults say.new) }
+    ensures none { result.blocks ≡ 0 }
+    ensures tape { result.tape.items ≡ [] }
+    ensures positions { result.positions ≡ false }
+    ensures misfit { result.misfit ≡ None }
+{
+    Report {
+        status: say_line(say, Status::Done, lines),
         blocks: 0,
         tape: Vec::new(alloc),
         positions: false,

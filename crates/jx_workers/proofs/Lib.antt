@@ -1,2 +1,4 @@
 mod TapeLemmas
 mod PassLemmas
+mod FrontLemmas
+pub mod UpToLemmas

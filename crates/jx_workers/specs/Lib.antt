@@ -3,3 +3,4 @@ pub mod Told
 -- Inner: no other crate cites these.
 pub mod Workers
 pub mod Committed
+pub mod Stops

@@ -1,10 +1,10 @@
 -- Jobs, and the tape that is made of them.
-use Rattle.std.specs.Prelude.{◌≡◌, ℕ, ◌+◌, ◌<◌, ◌≤◌, List, map, length, All, Option, Some, None, slice_get}
+use Rattle.std.specs.Prelude.{◌≡◌, ℕ, ◌+◌, ◌<◌, ◌≤◌, if◌then◌else◌, List, [], ◌∷◌, map, length, All, Option, Some, None, slice_get}
 use Rattle.jx_base.specs.Pieces.{bytes_in}
 use Rattle.jx_codeblock.specs.declared.job.Job.{Job}
 use Rattle.jx_codeblock.specs.Jobs.{IsAsked}
 use Rattle.jx_codeblock.specs.Recoding.{Recoding}
-use Rattle.jx_codeblock.specs.Recoded.{WrittenBlock, recoding_in}
+use Rattle.jx_codeblock.specs.Recoded.{WrittenBlock, is_bad, recoding_in}
 use Rattle.jx_store.specs.declared.event.Taped.{Taped}
 use Rattle.jx_store.specs.declared.work.Named.{Named}
 use Rattle.jx_store.specs.declared.work.Named.TheVariants.{Made, Bad}
@@ -40,11 +40,16 @@ named_as j None = Bad j.number
 abbrev pub answer_of : Job → Named WrittenBlock
 answer_of j = named_as j (recoding_in j)
 
--- the tape of these jobs: their numbers in order, each once; under each the answer to its job; worker numbers below
--- `threads`; and each number claimed inside both windows, when none before the first was still out
+-- jobs up to the first that is bad, with it
+abbrev pub up_to_bad : List Job → List Job
+up_to_bad [] = []
+up_to_bad (j ∷ js) = j ∷ (if is_bad j then [] else up_to_bad js)
+
+-- the tape of these jobs, up to the first that is bad: their numbers in order, each once; under each the answer to its job; worker numbers
+-- below `threads`; and each number claimed inside both windows, when none before the first was still out
 pub record IsTape (jobs : List Job) (first threads window most : ℕ) (entries : List (Taped (Named WrittenBlock))) : Type 0 where
-  pub order : map (λ (t : Taped (Named WrittenBlock)). t.number) entries ≡ numbers first (length jobs)
-  pub answers : map (λ (t : Taped (Named WrittenBlock)). t.named) entries ≡ map answer_of jobs
+  pub order : map (λ (t : Taped (Named WrittenBlock)). t.number) entries ≡ numbers first (length (up_to_bad jobs))
+  pub answers : map (λ (t : Taped (Named WrittenBlock)). t.named) entries ≡ map answer_of (up_to_bad jobs)
   pub workers : All (λ (t : Taped (Named WrittenBlock)). t.worker < threads) entries
   pub within : All (λ (t : Taped (Named WrittenBlock)). Within (bounds first window most jobs) t.seen t.number) entries
   pub from : All (λ (t : Taped (Named WrittenBlock)). first ≤ t.seen) entries

@@ -3,7 +3,7 @@ ghost use Rattle.std.specs.Prelude.{◌≡◌, ◌<◌, ◌≤◌, ◌+◌, ◌^
 ghost use Rattle.std.specs.List.{sum};
 ghost use Rattle.jx_workers.specs.Tapes.{AreAsked, IsTape, size_of};
 
-use crate::recoder::{Recoder, are_right};
+use crate::recoder::{Recoder, right_front};
 use crate::sizes::sizes_of;
 use crate::workers::{Limits, tape_of};
 use jx_base::NoMemory;
@@ -15,7 +15,7 @@ use std::marker::Brand;
 use std::sync::Wait;
 use std::thread::Threads;
 
-/// What workers made of some jobs, in the order of the jobs.
+/// What workers made of some jobs, in the order of the jobs, up to the first that is bad.
 #[derive(Drop)]
 pub struct Tape<'a> {
     /// For each job its number, the worker that had it, the first number that wasn't drained when it was
@@ -30,7 +30,8 @@ pub struct Tape<'a> {
 /// 1 to 64, `window` 1 to 1,024 and `most` 1 to 2^28, and all pieces have at most 2^28 bytes.
 ///
 /// The tape says of each job what it asks for, or that it is bad: that it is to be coded anew, and one of
-/// its segmentation symbols is wrong (T.800 D.5). It is refused for want of memory alone.
+/// its segmentation symbols is wrong (T.800 D.5). It ends with the first job that is bad: once a worker
+/// found one, none claims a number above it and makes its block. It is refused for want of memory alone.
 pub fn recode_all<'a, R: Threads + Wait + Sync, G: Gate + Sync>(
     rt: &R,
     alloc: Global,
@@ -65,8 +66,10 @@ pub fn recode_all<'a, R: Threads + Wait + Sync, G: Gate + Sync>(
         &recoder,
         gate,
     )?;
-    if !are_right(entries.as_slice()) {
+    let Some(count) = right_front(entries.as_slice()) else {
         return Err(NoMemory);
-    }
-    Ok(Tape { entries })
+    };
+    let mut front = entries;
+    front.truncate(count);
+    Ok(Tape { entries: front })
 }

@@ -1,11 +1,11 @@
 //! What a worker makes of a claim: the recoding of the job under its number.
-ghost use Rattle.std.specs.Prelude.{◌≡◌, ◌+◌, ◌<◌, ◌≤◌, true, All, length};
+ghost use Rattle.std.specs.Prelude.{◌≡◌, ◌+◌, ◌<◌, ◌≤◌, true, IfSome, length, map};
 ghost use Rattle.jx_store.specs.declared.event.Taped.{Taped};
 ghost use Rattle.jx_store.specs.declared.work.Named.{Named};
 ghost use Rattle.jx_codeblock.specs.Recoded.{WrittenBlock, is_bad};
 ghost use Rattle.jx_workers.specs.Tapes.{AreAsked, IsJob};
 ghost use Rattle.jx_workers.specs.Told.{is_anew};
-ghost use Rattle.jx_workers.specs.Committed.{IsCommitted, IsRight};
+ghost use Rattle.jx_workers.specs.Committed.{IsBadOne, IsCommitted, IsRight, IsRightFront};
 
 use crate::workers::Maker;
 use jx_codeblock::laws::bad_is_nothing;
@@ -73,8 +73,8 @@ impl<'a> Maker<Recoded<'a>> for Recoder<'a> {
     }
 }
 
-// Whether something was made of a job, or its block is bad.
-fn is_right<'a>(named: &Named<Recoded<'a>>) -> bool
+// Whether something was made of a job.
+fn is_made<'a>(named: &Named<Recoded<'a>>) -> bool
     ensures { result ≡ true → IsRight named.now }
 {
     match named {
@@ -83,19 +83,30 @@ fn is_right<'a>(named: &Named<Recoded<'a>>) -> bool
             let _ = made.parts();
             true
         }
-        Named::Bad(_) => true,
-        Named::Short(_) => false,
+        Named::Bad(_) | Named::Short(_) => false,
     }
 }
 
-/// Whether no worker was refused memory.
-pub(crate) fn are_right<'a>(entries: &[Entry<Recoded<'a>>]) -> bool
-    ensures { result ≡ true → All (λ (t : Taped (Named WrittenBlock)). IsRight t.named) entries.now }
+// So many, where the job of the last one is bad; none where memory was refused.
+fn with_bad<'a>(named: &Named<Recoded<'a>>, count: usize) -> Option<usize>
+    ensures { IfSome result (λ n. (n ≡ count) × IsBadOne named.now) }
 {
+    match named {
+        Named::Bad(_) => Some(count),
+        Named::Made(_) | Named::Short(_) => None,
+    }
+}
+
+/// How many entries there are up to the first whose job is bad, with it; none where a worker was refused memory before.
+pub(crate) fn right_front<'a>(entries: &[Entry<Recoded<'a>>]) -> Option<usize>
+    ensures { IfSome result (λ n. IsRightFront (map (λ (t : Taped (Named WrittenBlock)). t.named) entries.now) n) }
+{
+    let mut count = 0;
     for entry in entries {
-        if !is_right(&entry.named) {
-            return false;
+        count += 1;
+        if !is_made(&entry.named) {
+            return with_bad(&entry.named, count);
         }
     }
-    true
+    Some(count)
 }

@@ -1,13 +1,13 @@
 //! `boxes`: the boxes of a JP2 file are listed, and nothing is written.
 
-ghost use Rattle.std.specs.Prelude.{◌≡◌, ◌<◌, IfErr, IfOk, [], None, Some, false, string_bytes};
+ghost use Rattle.std.specs.Prelude.{◌≡◌, ◌<◌, IfErr, IfOk, None, Some, false, string_bytes};
 ghost use Rattle.jx_io.specs.Causes.{Rose};
 ghost use Rattle.jx_transcode.specs.BoxesRun.{EndsListed, IsListed, IsUnlisted};
-ghost use Rattle.jx_transcode.specs.Outcome.{EndsAs, EndsAsReadFault};
+ghost use Rattle.jx_transcode.specs.Outcome.{EndsAsReadFault};
 
 use crate::device::MOST;
 use crate::input::{read_input, unread_as};
-use crate::say::{refuse, say_line};
+use crate::say::{refuse, say_lines};
 use crate::{Report, Status};
 use jx_io::{Files, Sink};
 use jx_jp2::{BoxFault, is_jp2, list};
@@ -34,23 +34,6 @@ fn lines_of(alloc: Global, input: &[u8]) -> Result<String, Status>
             place: u64::from(place),
         }),
         Err(BoxFault::NoMemory) => Err(Status::NoMemory),
-    }
-}
-
-/// Says the lines.
-fn say_lines<S: Sink>(alloc: Global, say: &mut S, lines: &str) -> Report
-    ensures says { EndsAs Status.Done lines.now result.status (S.said say.old) (S.said say.new) (S.faults say.old) (S.faults say.new) }
-    ensures none { result.blocks ≡ 0 }
-    ensures tape { result.tape.items ≡ [] }
-    ensures positions { result.positions ≡ false }
-    ensures misfit { result.misfit ≡ None }
-{
-    Report {
-        status: say_line(say, Status::Done, lines),
-        blocks: 0,
-        tape: Vec::new(alloc),
-        positions: false,
-        misfit: None,
     }
 }
 

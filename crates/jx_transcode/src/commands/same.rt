@@ -1,6 +1,7 @@
 //! `same`: whether the codestreams of two files mean the same. Nothing is written.
 
-ghost use Rattle.std.specs.Prelude.{◌≡◌, ◌<◌, ◌⊎◌, IfOk, [], None, Some, false, string_bytes};
+ghost use Rattle.std.specs.Prelude.{◌≡◌, ◌<◌, ◌≤◌, ◌⊎◌, IfOk, [], None, Some, false, string_bytes};
+ghost use Rattle.jx_cli.specs.SameWords.{MayBeCompared};
 ghost use Rattle.jx_io.specs.Causes.{Rose};
 ghost use Rattle.jx_plan.specs.Plan.{MayBePlanned};
 ghost use Rattle.jx_transcode.specs.Outcome.{EndsAs, EndsAsReadFault};
@@ -17,6 +18,7 @@ use jx_codestream::Stream;
 use jx_io::{Files, Sink};
 use jx_same::{Answer, compare};
 use std::alloc::{AllocError, Global};
+use std::thread::Threads;
 
 /// What is known of two files before anything is said.
 #[derive(Clone, Copy, Debug)]
@@ -49,13 +51,16 @@ fn second_status(status: Status) -> Status
 }
 
 /// What becomes of the file of a name, beside a codestream that was read before it.
-fn compare_second<F: Files>(
+fn compare_second<R: Threads + Sync, F: Files>(
+    rt: &R,
     alloc: Global,
+    threads: u32,
     stream: &Stream,
     blocks: &[Block<'_>],
     files: &mut F,
     name: &str,
 ) -> Status
+    requires threads { (1 ≤ threads) × (threads ≤ 64) }
     requires may { MayBePlanned stream.now blocks.now }
     requires opens { F.can_open files.old name.now }
     ensures told { IsSecondTold name.now stream.now blocks.now result (F.meaning files.old) (F.meaning files.new) }
@@ -71,14 +76,28 @@ fn compare_second<F: Files>(
     match accept(alloc, &held) {
         Ok(second) => {
             let others: &[Block<'_>] = &second.blocks;
-            answer_status(compare(alloc, stream, blocks, &second.stream, others))
+            answer_status(compare(
+                rt,
+                alloc,
+                threads,
+                stream,
+                blocks,
+                &second.stream,
+                others,
+            ))
         }
         Err(status) => second_status(status),
     }
 }
 
 /// What becomes of the files of two names. The second is opened once the first is accepted.
-fn compare_files<F: Files>(alloc: Global, names: &Pair, files: &mut F) -> Told
+fn compare_files<R: Threads + Sync, F: Files>(
+    rt: &R,
+    alloc: Global,
+    names: &Pair,
+    files: &mut F,
+) -> Told
+    requires asked { MayBeCompared names.now }
     requires opens { F.can_open files.old names.now.first }
     requires opens_too { F.can_open files.old names.now.second }
     ensures told { IsToTell names.now result.status result.count (F.meaning files.old) (F.meaning files.new) }
@@ -102,7 +121,15 @@ fn compare_files<F: Files>(alloc: Global, names: &Pair, files: &mut F) -> Told
     match accept(alloc, &held) {
         Ok(accepted) => {
             let blocks: &[Block<'_>] = &accepted.blocks;
-            let status = compare_second(alloc, &accepted.stream, blocks, files, names.second());
+            let status = compare_second(
+                rt,
+                alloc,
+                names.threads(),
+                &accepted.stream,
+                blocks,
+                files,
+                names.second(),
+            );
             Told {
                 status,
                 count: blocks.len() as u32,
@@ -154,8 +181,16 @@ fn say_told<S: Sink>(alloc: Global, say: &mut S, told: Told) -> Report
     }
 }
 
-/// Reads the files of two names, and says whether their codestreams mean the same, or why it can't.
-pub fn run<F: Files, S: Sink>(alloc: Global, names: &Pair, files: &mut F, say: &mut S) -> Report
+/// Reads the files of two names, and says whether their codestreams mean the same, or why it can't. Their code-blocks are compared by as
+/// many threads as are asked for, on which what is said doesn't depend.
+pub fn run<R: Threads + Sync, F: Files, S: Sink>(
+    rt: &R,
+    alloc: Global,
+    names: &Pair,
+    files: &mut F,
+    say: &mut S,
+) -> Report
+    requires asked { MayBeCompared names.now }
     requires opens { F.can_open files.old names.now.first }
     requires opens_too { F.can_open files.old names.now.second }
     ensures ends { EndsCompared names.now result.status result.blocks result.tape.items (F.meaning files.old) (F.meaning files.new) (S.said say.old) (S.said say.new) }
@@ -170,6 +205,6 @@ pub fn run<F: Files, S: Sink>(alloc: Global, names: &Pair, files: &mut F, say: &
     ensures positions { result.positions ≡ false }
     ensures misfit { result.misfit ≡ None }
 {
-    let told = compare_files(alloc, names, files);
+    let told = compare_files(rt, alloc, names, files);
     say_told(alloc, say, told)
 }

@@ -11,6 +11,3 @@ returns-in-Ok-clause-place g c = rw (c.in_ok-extent.ensures.tile, c.in_ok-extent
 
 pub returns-in-Ok-clause-ends : goal.returns-in-Ok-clause-ends
 returns-in-Ok-clause-ends g c = rw c.in_ok-extent.ensures.tile c.in_ok-extent.ensures.extent.ends
-
-pub returns-in-Ok-clause-tape : goal.returns-in-Ok-clause-tape
-returns-in-Ok-clause-tape g c = rw c.in_ok-extent.ensures.block c.in-Ok.ensures.tape

@@ -1,7 +1,20 @@
-use Rattle.jx_rounds.specs.MadeRounds.{parts_of}
+use Rattle.std.proofs.Common.{◌≡◌, ◌∙◌, ◌+◌, ℕ, List, ◌++◌, length, map, ap, sym, subst, arith}
+use Rattle.jx_codeblock.specs.Recoded.{WrittenBlock}
+use Rattle.jx_store.specs.declared.event.Taped.{Taped}
+use Rattle.jx_store.specs.declared.work.Named.{Named}
+use Rattle.jx_plan.specs.Plan.{Plan}
+use Rattle.jx_tier2_writer.specs.Tile.{first_block}
+use Rattle.jx_rounds.specs.MadeRounds.{IsExtent, entry_of, parts_of}
+use Rattle.jx_rounds.specs.Rounds.{HasTape, IsPlace}
 use Rattle.jx_rounds.proofs.WriteLemmas.{cut_none, cut_round, round_written, same_err, unmade_unwritten}
 use Rattle.jx_rounds.proofs.TapedLemmas.{fault_round, unmade_round}
 use Rattle.jx_rounds.proofs.write.write_round.Goals as goal
+
+-- a round with entries for all its blocks ends behind the last of them
+round_end : (p : Plan) (tile next block blocks end count : ℕ) (counts : List ℕ) → IsExtent p tile counts blocks → block ≡ first_block p tile → next ≡ tile + length counts → IsPlace p next end → count ≡ blocks → block + count ≡ end
+round_end p tile next block blocks end count counts extent begins ends place whole =
+    let here : first_block p next ≡ first_block p (tile + length counts) = ap (first_block p) ends in
+    omega (arith, extent.of.blocks_are, begins, here, place.block_is, whole)
 
 pub returns-in_default-clause-err : goal.returns-in_default-clause-err
 returns-in_default-clause-err g c = cut_none c.args.making.now c.args.mark.tile (g.W.ByteWriter.written c.args.writer.now) c.requires.tile c.requires.begins
@@ -29,7 +42,13 @@ pub returns-in-Ok-put_tiles-clause-ends : goal.returns-in-Ok-put_tiles-clause-en
 returns-in-Ok-put_tiles-clause-ends g c = rw c.in-Some.ensures.next.0 c.in-Ok.ensures.ends
 
 pub returns-in-Ok-put_tiles-clause-tape : goal.returns-in-Ok-put_tiles-clause-tape
-returns-in-Ok-put_tiles-clause-tape g c = rw (c.in-Some.ensures.next.1, c.put_entries.ensures, c.mark_after.ensures.kept, c.deref-in-Ok-put_tiles.ensures.value) (c.in-Ok.ensures.tape _ c.requires.tape)
+returns-in-Ok-put_tiles-clause-tape g c =
+    let p : Plan = c.args.making.now in
+    let whole : length c.in-Ok.round.entries.items ≡ c.in-Ok.round.extent.blocks = sym (ap (λ (l : List (Taped (Named WrittenBlock))). length l) c.deref.ensures.value) ∙ c.in-Ok-packed_tiles.ensures.whole in
+    let end = round_end p c.args.mark.tile c.in-Ok.round.extent.tile c.args.mark.block c.in-Ok.round.extent.blocks c.in-Ok.round.extent.block (length c.in-Ok.round.entries.items) c.in-Ok.round.extent.counts.items
+    c.in-Ok.ensures.extent c.requires.block c.in-Ok.ensures.tile c.in-Ok.ensures.place whole in
+    rw (c.in-Some.ensures.next.1, c.put_entries.ensures, c.mark_after.ensures.kept, c.deref-in-Ok-put_tiles.ensures.value)
+    (subst (λ (n : ℕ). HasTape p c.args.crew.now.work n (c.args.tape.now.items ++ map entry_of c.in-Ok.round.entries.items)) end (c.in-Ok.ensures.tape c.args.tape.now.items c.requires.tape))
 
 pub returns-in-Ok-put_tiles-clause-other : goal.returns-in-Ok-put_tiles-clause-other
 returns-in-Ok-put_tiles-clause-other g c = c.put_tiles.ensures.other

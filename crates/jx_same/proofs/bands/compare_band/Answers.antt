@@ -13,7 +13,7 @@ use Rattle.jx_same.proofs.FindLemmas.{before, behind, none_made, nothing, some_m
 use Rattle.jx_same.proofs.bands.compare_band.Goals as goal
 
 pub returns-in-Some : goal.returns-in-Some
-returns-in-Some c =
+returns-in-Some g c =
     let a = c.args.a.now in
     let b = c.args.b.now in
     let n = c.args.name in
@@ -32,7 +32,7 @@ returns-in-Some c =
     sym (before p items coefs c.spot_of_band.result here)
 
 pub returns : goal.returns
-returns c =
+returns g c =
     let a = c.args.a.now in
     let b = c.args.b.now in
     let n = c.args.name in

@@ -14,7 +14,7 @@ use Rattle.jx_same.proofs.FindLemmas.{before, behind, none_made, nothing, some_m
 use Rattle.jx_same.proofs.bands.compare_component.Goals as goal
 
 pub returns-in-Some : goal.returns-in-Some
-returns-in-Some c =
+returns-in-Some g c =
     let a = c.args.a.now in
     let b = c.args.b.now in
     let i = c.args.comp in
@@ -33,7 +33,7 @@ returns-in-Some c =
     sym (before p items coefs c.spot_of_component.result here)
 
 pub compare_resolutions-requires-clause-aligned : goal.compare_resolutions-requires-clause-aligned
-compare_resolutions-requires-clause-aligned c =
+compare_resolutions-requires-clause-aligned g c κs held =
     let a = c.args.a.now in
     let b = c.args.b.now in
     let i = c.args.comp in
@@ -47,7 +47,7 @@ compare_resolutions-requires-clause-aligned c =
     aligned_from a b i c.requires.beside (sym is ∙ nothing c.unlike_coding.result (λ x e. c.in_default.not-Some x e))
 
 pub returns : goal.returns
-returns c =
+returns g c =
     let a = c.args.a.now in
     let b = c.args.b.now in
     let i = c.args.comp in

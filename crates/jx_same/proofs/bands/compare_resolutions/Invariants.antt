@@ -6,4 +6,4 @@ use Rattle.jx_same.specs.Sides.{geometry_at, meaning_at}
 use Rattle.jx_same.proofs.bands.compare_resolutions.Given as goal
 
 abbrev pub invariant-loop-res : goal.invariant-loop-res
-invariant-loop-res l = find (differs (meaning_at l.a) (meaning_at l.b)) (joined (resolution_items (geometry_at l.a) l.comp) 0 l.res) ≡ None
+invariant-loop-res g l = find (differs (meaning_at l.a) (meaning_at l.b)) (joined (resolution_items (geometry_at l.a) l.comp) 0 l.res) ≡ None

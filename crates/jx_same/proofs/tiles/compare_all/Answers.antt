@@ -1,18 +1,19 @@
-use Rattle.std.proofs.Common.{◌≡◌, ◌∙◌, ◌<◌, ℕ, ap, refl, subst, sym, arith}
+use Rattle.std.proofs.Common.{◌≡◌, ◌∙◌, ◌-◌, ◌<◌, ℕ, ap, refl, subst, sym, arith}
 use Rattle.std.proofs.lemmas.Bool.{and_parts}
 use Rattle.jx_marker.specs.declared.Siz.{Siz}
+use Rattle.jx_codestream.specs.declared.Stream.{Stream}
 use Rattle.jx_codestream.specs.First.{tile_number}
 use Rattle.jx_same.specs.Items.{differs, tile_items}
-use Rattle.jx_same.specs.Shared.{AreSameMain}
+use Rattle.jx_same.specs.Shared.{AreSameHeaders, AreSameMain}
 use Rattle.jx_same.specs.Sides.{meaning_in}
 use Rattle.jx_same.proofs.FindLemmas.{joined_begins, joined_goes, joined_stops, nothing}
 use Rattle.jx_same.proofs.HeaderLemmas.{siz_back}
-use Rattle.jx_same.proofs.SharedLemmas.{headers_beside, headers_from, headers_none, known_after, main_from}
+use Rattle.jx_same.proofs.SharedLemmas.{headers_before, headers_beside, headers_from, headers_none, known_after, main_from}
 use Rattle.jx_same.proofs.TileLemmas.{behind_of, tile_found}
 use Rattle.jx_same.proofs.tiles.compare_all.Goals as goal
 
 pub loop-tile-init : goal.loop-tile-init
-loop-tile-init c = record {
+loop-tile-init g c = record {
   first_a = refl;
   first_b = refl;
   known = λ is. absurd (cc);
@@ -20,23 +21,32 @@ loop-tile-init c = record {
 }
 
 pub new-requires-in-loop-tile-clause-tile : goal.new-requires-in-loop-tile-clause-tile
-new-requires-in-loop-tile-clause-tile c =
+new-requires-in-loop-tile-clause-tile g c =
     let same = siz_back c.args.a.stream.now c.args.b.stream.now c.args.a.blocks.now c.args.b.blocks.now c.requires.siz in
     let tiles : tile_number c.args.a.stream.now.siz ≡ tile_number c.args.b.stream.now.siz = ap (λ (z : Siz). tile_number z) same in
     let below : c.loop-tile.tile < tile_number c.args.a.stream.now.siz = omega (arith, c.loop-tile-test.true, c.tile_count-tile-end.ensures) in
     subst (λ (n : ℕ). c.loop-tile.tile < n) tiles below
 
+pub is_known-same-requires-clause-shared : goal.is_known-same-requires-clause-shared
+is_known-same-requires-clause-shared g c = λ is.
+    (let parts = and_parts c.loop-tile.known c.are_bare-bare.result (sym c.both.ensures ∙ is) in
+    headers_from c.args.a.stream.now c.args.b.stream.now c.loop-tile.tile (c.are_bare-bare.ensures parts.1) (c.loop-tile.invariant.known parts.0))
+
+pub is_known-same-requires-clause-before : goal.is_known-same-requires-clause-before
+is_known-same-requires-clause-before g c = λ lt. headers_before c.args.a c.args.b c.loop-tile.tile lt c.loop-tile.invariant.none
+
 pub compare_tile-requires-clause-known : goal.compare_tile-requires-clause-known
-compare_tile-requires-clause-known c = λ is.
-    (let a = c.args.a in
-    let b = c.args.b in
-    let t = c.loop-tile.tile in
-    let parts = and_parts c.loop-tile.known c.are_bare-bare.result (sym c.both.ensures ∙ is) in
-    headers_beside a b c.in_ok-side_a.side_a c.in_ok-side_b.side_b t c.in_ok-side_a.ensures c.in_ok-side_b.ensures
-    (headers_from a.stream.now b.stream.now t (c.are_bare-bare.ensures parts.1) (c.loop-tile.invariant.known parts.0)))
+compare_tile-requires-clause-known g c κs held = λ is.
+    headers_beside AreSameHeaders c.args.a c.args.b c.in_ok-side_a.side_a c.in_ok-side_b.side_b c.loop-tile.tile c.in_ok-side_a.ensures c.in_ok-side_b.ensures
+    (c.is_known-same.ensures is)
+
+pub compare_tile-requires-clause-before : goal.compare_tile-requires-clause-before
+compare_tile-requires-clause-before g c κs held =
+    headers_beside (λ (s t : Stream) (n : ℕ). 0 < n → AreSameHeaders s t (n - 1)) c.args.a c.args.b c.in_ok-side_a.side_a c.in_ok-side_b.side_b c.loop-tile.tile
+    c.in_ok-side_a.ensures c.in_ok-side_b.ensures (λ lt. headers_before c.args.a c.args.b c.loop-tile.tile lt c.loop-tile.invariant.none)
 
 pub returns-in-Some : goal.returns-in-Some
-returns-in-Some c =
+returns-in-Some g c =
     let a = c.args.a in
     let b = c.args.b in
     let found = tile_found a b c.in_ok-side_a.side_a c.in_ok-side_b.side_b c.loop-tile.tile c.in_ok-spot.field-0 c.in_ok-side_a.ensures c.in_ok-side_b.ensures c.in_ok-spot.ensures in
@@ -44,7 +54,7 @@ returns-in-Some c =
     sym (joined_stops (differs (meaning_in a) (meaning_in b)) (tile_items a.stream.now) c.loop-tile.tile (tile_number a.stream.now.siz) c.in-Some.spot c.loop-tile.invariant.none (sym found ∙ c.in-Some.is) below)
 
 pub loop-tile-preserved : goal.loop-tile-preserved
-loop-tile-preserved c =
+loop-tile-preserved g c =
     let a = c.args.a in
     let b = c.args.b in
     let t = c.loop-tile.tile in

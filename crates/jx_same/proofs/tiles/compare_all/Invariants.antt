@@ -11,7 +11,7 @@ use Rattle.jx_same.specs.Sides.{meaning_in}
 use Rattle.jx_same.proofs.tiles.compare_all.Given as goal
 
 abbrev pub invariant-loop-tile : goal.invariant-loop-tile
-invariant-loop-tile l = record {
+invariant-loop-tile g l = record {
   first_a : l.first_a ≡ blocks_below (canvas_of l.a.stream.now.siz) (shapes_of l.a.stream.now) l.tile;
   first_b : l.first_b ≡ blocks_below (canvas_of l.b.stream.now.siz) (shapes_of l.b.stream.now) l.tile;
   known : IsTrue l.known → AreSameMain l.a.stream.now l.b.stream.now;

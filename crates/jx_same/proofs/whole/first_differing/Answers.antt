@@ -12,13 +12,13 @@ use Rattle.jx_same.proofs.whole.first_differing.Goals as goal
 
 pub returns-in-Some : goal.returns-in-Some
 unfolding items_of
-returns-in-Some c =
+returns-in-Some g c =
     let s = c.args.a.stream.now in
     let p = differs (meaning_in c.args.a) (meaning_in c.args.b) in
     sym (before p (picture_items s.siz) (joined (tile_items s) 0 (tile_number s.siz)) c.in-Some.spot (sym c.compare_pictures.ensures ∙ c.in-Some.is))
 
 pub compare_tiles-requires-clause-siz : goal.compare_tiles-requires-clause-siz
-compare_tiles-requires-clause-siz c =
+compare_tiles-requires-clause-siz g c κs held =
     let a = c.args.a in
     let b = c.args.b in
     siz_one a.stream.now b.stream.now a.blocks.now b.blocks.now
@@ -26,7 +26,7 @@ compare_tiles-requires-clause-siz c =
 
 pub returns : goal.returns
 unfolding items_of
-returns c =
+returns g c =
     let s = c.args.a.stream.now in
     let p = differs (meaning_in c.args.a) (meaning_in c.args.b) in
     let tiles = joined (tile_items s) 0 (tile_number s.siz) in

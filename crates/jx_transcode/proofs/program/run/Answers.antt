@@ -1,6 +1,6 @@
 use Rattle.std.proofs.Common.{◌∙◌, map, string_bytes}
 use Rattle.jx_transcode.proofs.MisfitLemmas.{each_told, told_on, untold}
-use Rattle.jx_transcode.proofs.RunLemmas.{outcome_boxes, outcome_lent, outcome_make, outcome_memory, outcome_same, outcome_transcode}
+use Rattle.jx_transcode.proofs.RunLemmas.{outcome_boxes, outcome_lent, outcome_make, outcome_memory, outcome_same, outcome_show, outcome_transcode}
 use Rattle.jx_transcode.proofs.program.run.Goals as goal
 
 pub returns-in-Ok-Transcode-clause-outcome : goal.returns-in-Ok-Transcode-clause-outcome
@@ -17,11 +17,15 @@ returns-in-Ok-Make-clause-outcome g c = outcome_lent _ c.args.planners.items c.d
 pub returns-in-Ok-Boxes-clause-outcome : goal.returns-in-Ok-Boxes-clause-outcome
 returns-in-Ok-Boxes-clause-outcome g c =
     let asks = rw c.in-Ok-Boxes.field-0-is at c.in-Ok-Boxes.ensures.asks in
-    outcome_boxes (map string_bytes c.args.words.now) c.as_str.result.now _ _ _ _ _ _ _ _ (asks.0, asks.1, asks.2, asks.3, c.as_str.ensures.value ∙ asks.4) c.run-in-Ok-Boxes.ensures.ends
+    outcome_boxes (map string_bytes c.args.words.now) c.as_str.result.now _ _ _ _ _ _ _ _ (asks.0, asks.1, asks.2, asks.3, asks.4, c.as_str.ensures.value ∙ asks.5) c.run-in-Ok-Boxes.ensures.ends
 
 pub returns-in-Ok-Same-clause-outcome : goal.returns-in-Ok-Same-clause-outcome
 returns-in-Ok-Same-clause-outcome g c =
     outcome_same (map string_bytes c.args.words.now) c.in-Ok-Same.names _ _ _ _ _ _ _ _ (rw c.in-Ok-Same.field-0-is at c.in-Ok-Same.ensures.asks) c.run-in-Ok-Same.ensures.ends
+
+pub returns-in-Ok-Show-clause-outcome : goal.returns-in-Ok-Show-clause-outcome
+returns-in-Ok-Show-clause-outcome g c =
+    outcome_show (map string_bytes c.args.words.now) c.in-Ok-Show.asked _ _ _ _ _ _ _ _ (rw c.in-Ok-Show.field-0-is at c.in-Ok-Show.ensures.asks) c.run-in-Ok-Show.ensures.ends
 
 pub returns-clause-outcome : goal.returns-clause-outcome
 returns-clause-outcome g c = rw (c.refuse-in-Err-NoMemory.ensures.none, c.refuse-in-Err-NoMemory.ensures.tape)
@@ -30,7 +34,7 @@ returns-clause-outcome g c = rw (c.refuse-in-Err-NoMemory.ensures.none, c.refuse
 pub returns-in-Ok-Transcode-clause-misfit : goal.returns-in-Ok-Transcode-clause-misfit
 returns-in-Ok-Transcode-clause-misfit g c =
     let asks = rw c.in-Ok-Transcode.field-0-is at c.in-Ok-Transcode.ensures.asks in
-    told_on _ _ c.run.result.misfit c.run.result.misfit (each_told c.run.result.misfit) (λ m is. (asks.0, rw (← asks.4) is)) c.run.ensures.misfit
+    told_on _ _ c.run.result.misfit c.run.result.misfit (each_told c.run.result.misfit) (λ m is. (asks.0, rw (← asks.5) is)) c.run.ensures.misfit
 
 pub returns-in-Ok-Make-clause-misfit : goal.returns-in-Ok-Make-clause-misfit
 returns-in-Ok-Make-clause-misfit g c = untold _ c.run-in-Ok-Make.result.misfit c.run-in-Ok-Make.ensures.misfit
@@ -40,6 +44,9 @@ returns-in-Ok-Boxes-clause-misfit g c = untold _ c.run-in-Ok-Boxes.result.misfit
 
 pub returns-in-Ok-Same-clause-misfit : goal.returns-in-Ok-Same-clause-misfit
 returns-in-Ok-Same-clause-misfit g c = untold _ c.run-in-Ok-Same.result.misfit c.run-in-Ok-Same.ensures.misfit
+
+pub returns-in-Ok-Show-clause-misfit : goal.returns-in-Ok-Show-clause-misfit
+returns-in-Ok-Show-clause-misfit g c = untold _ c.run-in-Ok-Show.result.misfit c.run-in-Ok-Show.ensures.misfit
 
 pub returns-clause-misfit : goal.returns-clause-misfit
 returns-clause-misfit g c = untold _ c.refuse-in-Err-NoMemory.result.misfit c.refuse-in-Err-NoMemory.ensures.misfit

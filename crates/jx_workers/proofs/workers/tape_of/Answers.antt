@@ -1,7 +1,8 @@
-use Rattle.std.proofs.Common.{ℕ, List, length, ap, sym, subst, ◌∙◌, ◌<◌, ◌≤◌}
+use Rattle.std.proofs.Common.{ℕ, List, length, ap, sym, subst, ◌∙◌, ◌≡◌, ◌⊎◌, ◌+◌, ◌<◌, ◌≤◌}
 use Rattle.jx_store.specs.Order.{numbers}
 use Rattle.jx_store.specs.Setup.{Setup}
 use Rattle.jx_store.specs.Valid.{IsOf}
+use Rattle.jx_workers.specs.Stops.{IsBadBelow}
 use Rattle.jx_workers.proofs.PassLemmas.{all_free}
 use Rattle.jx_workers.proofs.workers.tape_of.Goals as goal
 
@@ -14,7 +15,15 @@ all_work-requires-clause-free g c κs within =
 pub returns-clause-order : goal.returns-clause-order
 returns-clause-order g c =
     let b = c.requires.bounds in
-    c.collect.ensures.order ∙ ap (λ (p : Setup). numbers p.first (length p.sizes)) b.0 ∙ ap (numbers c.args.limits.first) (sym c.requires.count.2)
+    c.collect.ensures.order ∙ ap (λ (p : Setup). numbers p.first (length c.collect.result.items)) b.0
+
+pub returns-clause-ended : goal.returns-clause-ended
+returns-clause-ended g c =
+    let b = c.requires.bounds in
+    let n : ℕ = length c.collect.result.items in
+    let set = subst (λ (p : Setup). (n ≡ length p.sizes) ⊎ IsBadBelow p.first g.N.Bounds.jobs g.V.Work.bad (p.first + n)) b.0 c.collect.ensures.ended in
+    let named = subst (λ (jobs : List _). (n ≡ length c.args.sizes.now) ⊎ IsBadBelow c.args.limits.first jobs g.V.Work.bad (c.args.limits.first + n)) b.2 set in
+    subst (λ (count : ℕ). (n ≡ count) ⊎ IsBadBelow c.args.limits.first c.args.jobs.now g.V.Work.bad (c.args.limits.first + n)) (sym c.requires.count.2) named
 
 pub returns-clause-each : goal.returns-clause-each
 returns-clause-each g c i t at =

@@ -1,14 +1,15 @@
 use Rattle.std.proofs.Common.{arith}
 use Rattle.jx_rounds.proofs.WriteLemmas.{unrisen}
 use Rattle.jx_transcode.specs.declared.status.Status.TheVariants as status
-use Rattle.jx_transcode.proofs.BoxesLemmas.{done_sound, listed_said, listed_to_say, refused_to_say, unlisted_to_say, unlisted_unread}
+use Rattle.jx_transcode.proofs.BoxesLemmas.{done_sound, listed_to_say, unlisted_to_say, unlisted_unread}
+use Rattle.jx_transcode.proofs.LinesLemmas.{lines_said, refused_to_say}
 use Rattle.jx_transcode.proofs.SaidLemmas.{read_said, rose_said, unread_said, unsaid, write_alone}
 use Rattle.jx_transcode.proofs.StatusLemmas.{failed_unread, unread_either, unread_failed, unread_unwritten}
 use Rattle.jx_transcode.proofs.commands.boxes.run.Goals as goal
 
 pub returns-in-Err-clause-ends : goal.returns-in-Err-clause-ends
 returns-in-Err-clause-ends g c = rw (c.refuse.ensures.none, c.refuse.ensures.tape)
-    (listed_said c.args.name.now c.unread_as.result c.refuse.result.status _ _ _ _ _ _ _ (refused_to_say c.args.name.now c.in-Err.refused c.unread_as.result _ _ c.unread_as.ensures c.in-Err.ensures.same) c.refuse.ensures.ends)
+    (lines_said _ _ c.args.name.now c.unread_as.result c.refuse.result.status _ _ _ _ _ _ _ (refused_to_say _ _ c.args.name.now c.in-Err.refused c.unread_as.result _ _ c.unread_as.ensures c.in-Err.ensures.same) c.refuse.ensures.ends)
 
 pub returns-in-Err-clause-read : goal.returns-in-Err-clause-read
 returns-in-Err-clause-read g c = read_said _ _ _ _ _ _ _ (λ failed. c.in-Err.ensures.cause.failed (unread_failed c.in-Err.refused _ c.unread_as.ensures failed)) c.refuse.ensures.ends
@@ -21,7 +22,7 @@ returns-in-Err-clause-unsaid g c = unsaid _ _ _ _ _ _ _ c.refuse.ensures.ends
 
 pub returns-in-Ok-lines_of-clause-ends : goal.returns-in-Ok-lines_of-clause-ends
 returns-in-Ok-lines_of-clause-ends g c = rw (c.say_lines.ensures.none, c.say_lines.ensures.tape)
-    (listed_said c.args.name.now status.Done c.say_lines.result.status c.as_str.result.now _ _ _ _ _ _
+    (lines_said _ _ c.args.name.now status.Done c.say_lines.result.status c.as_str.result.now _ _ _ _ _ _
     (listed_to_say c.args.name.now c.deref.result.now c.as_str.result.now _ _ (rw c.deref.ensures.value c.in-Ok.ensures.bytes) c.in-Ok.ensures.same (rw c.as_str.ensures.value c.in-Ok-lines_of.ensures.listed)) c.say_lines.ensures.says)
 
 pub returns-in-Ok-lines_of-clause-read : goal.returns-in-Ok-lines_of-clause-read
@@ -35,7 +36,7 @@ returns-in-Ok-lines_of-clause-unsaid g c = unsaid _ _ _ _ _ _ _ c.say_lines.ensu
 
 pub returns-clause-ends : goal.returns-clause-ends
 returns-clause-ends g c = rw (c.refuse-in-Err-lines_of.ensures.none, c.refuse-in-Err-lines_of.ensures.tape)
-    (listed_said c.args.name.now c.in-Err-lines_of.status c.refuse-in-Err-lines_of.result.status _ _ _ _ _ _ _
+    (lines_said _ _ c.args.name.now c.in-Err-lines_of.status c.refuse-in-Err-lines_of.result.status _ _ _ _ _ _ _
     (unlisted_to_say c.args.name.now c.deref.result.now c.in-Err-lines_of.status _ _ (rw c.deref.ensures.value c.in-Ok.ensures.bytes) c.in-Ok.ensures.same c.in-Err-lines_of.ensures.refused) c.refuse-in-Err-lines_of.ensures.ends)
 
 pub returns-clause-read : goal.returns-clause-read

@@ -1,0 +1,9 @@
+use Rattle.std.proofs.Common.{◌≡◌, ◌≤◌, drop, length}
+use Rattle.jx_same.specs.Sayings.{sayings}
+use Rattle.jx_same.proofs.sayings.same_sayings.Given as goal
+
+abbrev pub invariant-loop-at : goal.invariant-loop-at
+invariant-loop-at l = record {
+  most : l.other ≤ length l.b;
+  rest : sayings l.asked (drop l.at l.a) ≡ sayings l.asked (drop l.other l.b) → sayings l.asked l.a ≡ sayings l.asked l.b;
+}
