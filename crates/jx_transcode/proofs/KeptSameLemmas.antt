@@ -1,5 +1,5 @@
 -- What a written file keeps, it means.
-use Rattle.std.proofs.Common.{◌≡◌, ◌≤◌, ◌==◌, ◌&&◌, ◌∙◌, Bool, true, false, ℕ, List, [], ◌∷◌, length, None, ap, refl, subst, sym, inl, inr}
+use Rattle.std.proofs.Common.{◌≡◌, ◌≤◌, ◌==◌, ◌&&◌, ◌∙◌, Bool, true, false, ℕ, List, [], ◌∷◌, length, None, ap, refl, subst, sym}
 use Rattle.std.specs.List.{find}
 use Rattle.std.proofs.lemmas.Bool.{and_from, eq-eqb}
 use Rattle.jx_base.specs.declared.pieces.Block.{Block}
@@ -20,9 +20,9 @@ use Rattle.jx_transcode.specs.Outcome.{most_bytes}
 use Rattle.jx_transcode.specs.Rewritten.{IsKept, ReadsLeft}
 use Rattle.jx_transcode.specs.SameRun.{HasCodestream, SameVerdict}
 use Rattle.jx_transcode.specs.declared.status.Status.TheVariants as status
-use Rattle.jx_transcode.proofs.JudgeLemmas.{content_short}
 use Rattle.jx_transcode.proofs.OneVerdictLemmas.{Laws, one_left}
 use Rattle.jx_transcode.proofs.ReducedLemmas.{WholeLaws, left_is_all}
+use Rattle.jx_transcode.proofs.SameVerdictLemmas.{inner_short}
 
 -- ---- a meaning and itself
 pub same_number : (n : ℕ) → (n == n) ≡ true
@@ -67,10 +67,6 @@ one_answer : (s : Stream) (a b : Meaning) → b ≡ a → answer.Same ≡ answer
 one_answer s a b same = sym (ap (answer_of s a) same ∙ ap answer_at (self_none a (items_of s)))
 
 -- ---- an input and what was written of it
-pub inner_short : (input inner : List ℕ) (from : ℕ) → length input ≤ most_bytes → HasCodestream input from inner → length inner ≤ most_bytes
-inner_short input inner from short (inl bare) = subst (λ (b : List ℕ). length b ≤ most_bytes) (sym bare.2) short
-inner_short input inner from short (inr boxed) = subst (λ (b : List ℕ). length b ≤ most_bytes) (sym boxed.4) (content_short input boxed.1 short)
-
 abbrev pub blocks_of : (aim : Aim) (input out : List ℕ) → IsKept aim input out → List Block
 blocks_of aim input out kept = blocks_written aim.wanted kept.by kept.before kept.blocks
 
@@ -90,7 +86,7 @@ kept_same laws aim input out inner again from to kept none short short_out has h
   others = blocks_of aim inner again kept;
   accepted_too = record { within = short_out; from = to; inner = again; has = has_out; reads = record { read = kept.kept.read; totals = within; gathered = kept.kept.gathered } };
   is = one_answer kept.reads.whole (meaning_of kept.reads.whole kept.reads.all) (meaning_of kept.after (blocks_of aim inner again kept))
-      (kept.kept.meaning ∙ whole_meaning laws aim.reduce inner kept.before kept.blocks (inner_short input inner from short has) none kept.reads);
+      (kept.kept.meaning ∙ whole_meaning laws aim.reduce inner kept.before kept.blocks (inner_short input inner from has short) none kept.reads);
 }
 
 -- ---- two files that were written of an input

@@ -31,8 +31,9 @@ use Rattle.jx_transcode.specs.Rewritten.{IsKept}
 use Rattle.jx_transcode.specs.SameRun.{HasCodestream, SameVerdict}
 use Rattle.jx_transcode.specs.declared.status.Status.TheVariants as status
 use Rattle.jx_transcode.specs.declared.status.Unlike.TheVariants as unlike
-use Rattle.jx_transcode.proofs.KeptSameLemmas.{blocks_of, canvas_self, inner_short, same_number}
+use Rattle.jx_transcode.proofs.KeptSameLemmas.{blocks_of, canvas_self, same_number}
 use Rattle.jx_transcode.proofs.ReducedLemmas.{WholeLaws, planned_of}
+use Rattle.jx_transcode.proofs.SameVerdictLemmas.{inner_short}
 
 -- ---- the first spots of a codestream's items
 abbrev first_spot : Field → Spot
@@ -141,7 +142,7 @@ pub fewer_differ : WholeLaws → (aim : Aim) (input out inner again : List ℕ) 
     → HasCodestream out to again → totals_fault kept.after ≡ None → SameVerdict input out (status.Unlike (unlike.Differs (first_spot field.Sampling)))
 fewer_differ laws aim input out inner again from to kept more short short_out has has_out within =
     let whole : Stream = kept.reads.whole in
-    let plan : MayBePlanned whole kept.reads.all = planned_of laws inner whole kept.reads.all (inner_short input inner from short has) kept.reads.reads in
+    let plan : MayBePlanned whole kept.reads.all = planned_of laws inner whole kept.reads.all (inner_short input inner from has short) kept.reads.reads in
     let fits : siz_fits whole.siz ≡ true = plan.headers.siz.fits in record {
       stream = whole;
       blocks = kept.reads.all;

@@ -76,15 +76,7 @@ fn compare_second<R: Threads + Sync, F: Files>(
     match accept(alloc, &held) {
         Ok(second) => {
             let others: &[Block<'_>] = &second.blocks;
-            answer_status(compare(
-                rt,
-                alloc,
-                threads,
-                stream,
-                blocks,
-                &second.stream,
-                others,
-            ))
+            answer_status(compare(rt, alloc, threads, stream, blocks, &second.stream, others))
         }
         Err(status) => second_status(status),
     }

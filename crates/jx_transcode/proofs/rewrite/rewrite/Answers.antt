@@ -9,15 +9,15 @@ use Rattle.jx_transcode.proofs.RefusedLemmas.{input_unread, input_unwritten, rea
 use Rattle.jx_transcode.proofs.rewrite.rewrite.Goals as goal
 
 pub rewrite_left-requires-clause-may : goal.rewrite_left-requires-clause-may
-rewrite_left-requires-clause-may g c = rw c.deref-all.ensures.value
+rewrite_left-requires-clause-may g c κs lives = rw c.deref-all.ensures.value
     (c.gathered_may_be_planned.ensures c.args.input.now c.args.stream.now c.in-Ok.blocks.items c.requires.read c.requires.within c.in-Ok.ensures.totals c.in-Ok.ensures.gathered)
 
 pub reduce-requires-clause-may : goal.reduce-requires-clause-may
 reduce-requires-clause-may g c = rw c.deref-all.ensures.value
     (c.gathered_may_be_planned.ensures c.args.input.now c.args.stream.now c.in-Ok.blocks.items c.requires.read c.requires.within c.in-Ok.ensures.totals c.in-Ok.ensures.gathered)
 
-pub rewrite_left-in-Ok-reduce-requires-clause-may : goal.rewrite_left-in-Ok-reduce-requires-clause-may
-rewrite_left-in-Ok-reduce-requires-clause-may g c = rw c.deref-few.ensures.value c.in-Ok-reduce.ensures.planned
+pub rewrite_left-requires-in-Ok-reduce-clause-may : goal.rewrite_left-requires-in-Ok-reduce-clause-may
+rewrite_left-requires-in-Ok-reduce-clause-may g c κs lives = rw c.deref-few.ensures.value c.in-Ok-reduce.ensures.planned
 
 pub overflow_cast-all : goal.overflow_cast-all
 overflow_cast-all g c = omega (
