@@ -1,11 +1,14 @@
--- The first value in which two codestreams differ, in words.
-use Rattle.std.specs.Prelude.{List, ◌++◌, codes}
+-- The first value in which two codestreams differ, and what both have there, in words.
+use Rattle.std.specs.Prelude.{ℕ, ◌+◌, ◌%◌, ◌==◌, nat_lt, Bool, List, ◌++◌, codes, if◌then◌else◌}
 use Rattle.std.specs.Fmt.{decimal}
 use Rattle.jx_base.specs.declared.names.Band.{Band}
 use Rattle.jx_base.specs.declared.names.Band.TheVariants as band
+use Rattle.jx_same.specs.declared.answer.Difference.{Difference}
 use Rattle.jx_same.specs.declared.answer.Field.{Field}
 use Rattle.jx_same.specs.declared.answer.Field.TheVariants as field
 use Rattle.jx_same.specs.declared.answer.Spot.{Spot}
+use Rattle.jx_same.specs.declared.answer.Value.{Value}
+use Rattle.jx_same.specs.declared.answer.Value.TheVariants as value
 use Rattle.jx_messages.specs.Text.{Text}
 
 abbrev pub field_words : Field → Text
@@ -75,7 +78,55 @@ place_words field.Exponent s = step_words s
 place_words field.Mantissa s = step_words s
 place_words field.Coef s = column_words s
 
+-- ---- a value, by its field
+-- Ssiz (Table A.11): one less than the bits, and 128 where samples have a sign
+abbrev pub depth_words : ℕ → Text
+depth_words ssiz = decimal (ssiz % 128 + 1) ++ (if nat_lt ssiz 128 then codes " bits without a sign" else codes " bits with a sign")
+
+-- Table A.20
+abbrev pub wavelet_words : ℕ → Text
+wavelet_words n = if n == 0 then codes "9-7" else codes "5-3"
+
+-- Table A.17
+abbrev pub transform_words : ℕ → Text
+transform_words n = if n == 0 then codes "none" else codes "one of the first three"
+
+-- Table A.28
+abbrev pub quant_words : ℕ → Text
+quant_words n = if n == 0 then codes "none" else (if n == 1 then codes "derived steps" else codes "expounded steps")
+
+abbrev pub number_words : Field → ℕ → Text
+number_words field.Depth n = depth_words n
+number_words field.Wavelet n = wavelet_words n
+number_words field.Transform n = transform_words n
+number_words field.Quant n = quant_words n
+number_words _ n = decimal n
+
+abbrev pub factor_words : ℕ → ℕ → Text
+factor_words dx dy = decimal dx ++ (codes " by " ++ decimal dy)
+
+-- the picture's and the tiles' places on the reference grid
+abbrev pub canvas_words : ℕ → ℕ → ℕ → ℕ → ℕ → ℕ → ℕ → ℕ → Text
+canvas_words x1 y1 x0 y0 tw th tx ty =
+    decimal x0 ++ (codes "," ++ (decimal y0 ++ (codes " to " ++ (decimal x1 ++ (codes "," ++ (decimal y1 ++ (codes ", tiles of " ++ (decimal tw ++ (codes " by " ++ (decimal th ++ (codes " from " ++ (decimal tx ++ (codes "," ++ decimal ty)))))))))))))
+
+abbrev pub coef_words : Bool → ℕ → ℕ → Text
+coef_words negative bits planes = (if negative then codes "-" else codes "") ++ (decimal bits ++ (codes " in " ++ (decimal planes ++ codes " planes")))
+
+abbrev pub value_words : Field → Value → Text
+value_words f (value.Canvas x1 y1 x0 y0 tw th tx ty) = canvas_words x1 y1 x0 y0 tw th tx ty
+value_words f (value.Factors dx dy) = factor_words dx dy
+value_words f (value.Coef negative bits planes) = coef_words negative bits planes
+value_words f (value.Number n) = number_words f n
+
+-- what the first file has, and what the second has
+abbrev pub values_words : Difference → Text
+values_words d = codes "the first has " ++ (value_words d.spot.field d.first ++ (codes ",\n    the second has " ++ value_words d.spot.field d.second))
+
 -- two files that aren't the same
-abbrev pub differs_sentence : Text → Text → Spot → Text
-differs_sentence first second s =
-    codes "jx: " ++ (first ++ (codes " and " ++ (second ++ (codes " aren't the same; the first value that differs is\n    " ++ (field_words s.field ++ (place_words s.field s ++ (codes " (T.800 " ++ (field_section s.field ++ codes ")\n"))))))))
+abbrev pub spot_words : Spot → Text
+spot_words s = field_words s.field ++ (place_words s.field s ++ (codes " (T.800 " ++ (field_section s.field ++ codes ")")))
+
+abbrev pub differs_sentence : Text → Text → Difference → Text
+differs_sentence first second d =
+    codes "jx: " ++ (first ++ (codes " and " ++ (second ++ (codes " aren't the same; the first value that differs is\n    " ++ (spot_words d.spot ++ (codes ":\n    " ++ (values_words d ++ codes "\n")))))))

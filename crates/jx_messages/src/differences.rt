@@ -1,9 +1,9 @@
 //! The first value in which two codestreams differ, in words.
 ghost use Rattle.std.specs.Prelude.{◌≡◌, IfOk, string_bytes};
-ghost use Rattle.jx_messages.specs.Differences.{band_words, column_words, component_words, differs_sentence, field_section, field_words, place_words, step_words, tile_words};
+ghost use Rattle.jx_messages.specs.Differences.{band_words, coef_words, column_words, component_words, depth_words, differs_sentence, field_section, field_words, number_words, place_words, quant_words, spot_words, step_words, tile_words, transform_words, value_words, values_words, wavelet_words};
 
 use jx_base::Band;
-use jx_same::{Field, Spot};
+use jx_same::{Difference, Field, Spot, Value};
 use std::alloc::{AllocError, Global};
 
 /// A field.
@@ -118,19 +118,133 @@ fn place_text(alloc: Global, spot: Spot) -> Result<String, AllocError>
     }
 }
 
-/// Two files that aren't the same, by the first value that differs.
-pub(crate) fn differs_text(
+/// The bits of samples, and whether they have a sign, by Ssiz (Table A.11).
+fn depth_text(alloc: Global, ssiz: u16) -> Result<String, AllocError>
+    ensures { IfOk result (λ text. string_bytes text ≡ depth_words ssiz) }
+{
+    let bits = ssiz % 128 + 1;
+    let sign = if ssiz < 128 {
+        " bits without a sign"
+    } else {
+        " bits with a sign"
+    };
+    format!(in alloc; "{bits}{sign}")
+}
+
+/// A wavelet (Table A.20).
+fn wavelet_words(number: u16) -> &'static str
+    ensures { result.now ≡ wavelet_words number }
+{
+    if number == 0 { "9-7" } else { "5-3" }
+}
+
+/// A component transform (Table A.17).
+fn transform_words(number: u16) -> &'static str
+    ensures { result.now ≡ transform_words number }
+{
+    if number == 0 {
+        "none"
+    } else {
+        "one of the first three"
+    }
+}
+
+/// A style of quantization (Table A.28).
+fn quant_words(number: u16) -> &'static str
+    ensures { result.now ≡ quant_words number }
+{
+    if number == 0 {
+        return "none";
+    }
+    if number == 1 {
+        "derived steps"
+    } else {
+        "expounded steps"
+    }
+}
+
+/// A number of a field.
+fn number_text(alloc: Global, field: Field, number: u16) -> Result<String, AllocError>
+    ensures { IfOk result (λ text. string_bytes text ≡ number_words field number) }
+{
+    match field {
+        Field::Depth => depth_text(alloc, number),
+        Field::Wavelet => String::from_str(alloc, wavelet_words(number)),
+        Field::Transform => String::from_str(alloc, transform_words(number)),
+        Field::Quant => String::from_str(alloc, quant_words(number)),
+        _ => format!(in alloc; "{number}"),
+    }
+}
+
+/// A coefficient.
+fn coef_text(
     alloc: Global,
-    spot: Spot,
-    first: &str,
-    second: &str,
+    negative: bool,
+    bits: u128,
+    planes: u16,
 ) -> Result<String, AllocError>
-    ensures { IfOk result (λ text. string_bytes text ≡ differs_sentence first.now second.now spot) }
+    ensures { IfOk result (λ text. string_bytes text ≡ coef_words negative bits planes) }
+{
+    let sign = if negative { "-" } else { "" };
+    format!(in alloc; "{sign}{bits} in {planes} planes")
+}
+
+/// A value of a field.
+fn value_text(alloc: Global, field: Field, value: Value) -> Result<String, AllocError>
+    ensures { IfOk result (λ text. string_bytes text ≡ value_words field value) }
+{
+    match value {
+        Value::Canvas {
+            x1,
+            y1,
+            x0,
+            y0,
+            tw,
+            th,
+            tx,
+            ty,
+        } => format!(in alloc; "{x0},{y0} to {x1},{y1}, tiles of {tw} by {th} from {tx},{ty}"),
+        Value::Factors { dx, dy } => format!(in alloc; "{dx} by {dy}"),
+        Value::Coef {
+            negative,
+            bits,
+            planes,
+        } => coef_text(alloc, negative, bits, planes),
+        Value::Number(number) => number_text(alloc, field, number),
+    }
+}
+
+/// What the first file has, and what the second has.
+fn values_text(alloc: Global, difference: Difference) -> Result<String, AllocError>
+    ensures { IfOk result (λ text. string_bytes text ≡ values_words difference) }
+{
+    let first = value_text(alloc, difference.spot.field, difference.first)?;
+    let second = value_text(alloc, difference.spot.field, difference.second)?;
+    format!(in alloc; "the first has {first},\n    the second has {second}")
+}
+
+/// What a value is, where it stands, and where T.800 speaks of it.
+fn spot_text(alloc: Global, spot: Spot) -> Result<String, AllocError>
+    ensures { IfOk result (λ text. string_bytes text ≡ spot_words spot) }
 {
     let what = field_words(spot.field);
     let place = place_text(alloc, spot)?;
     let section = field_section(spot.field);
+    format!(in alloc; "{what}{place} (T.800 {section})")
+}
+
+/// Two files that aren't the same, by the first value that differs, as both have it.
+pub(crate) fn differs_text(
+    alloc: Global,
+    difference: Difference,
+    first: &str,
+    second: &str,
+) -> Result<String, AllocError>
+    ensures { IfOk result (λ text. string_bytes text ≡ differs_sentence first.now second.now difference) }
+{
+    let what = spot_text(alloc, difference.spot)?;
+    let values = values_text(alloc, difference)?;
     format!(in alloc;
-        "jx: {first} and {second} aren't the same; the first value that differs is\n    {what}{place} (T.800 {section})\n"
+        "jx: {first} and {second} aren't the same; the first value that differs is\n    {what}:\n    {values}\n"
     )
 }

@@ -18,7 +18,7 @@ mod words;
 
 pub use faults::explain_fault;
 pub use help::help_of;
-use jx_same::Spot;
+use jx_same::Difference;
 pub use notes::note_positions;
 pub use sentence::explain;
 
@@ -66,8 +66,8 @@ pub enum Refusal {
         /// Its number.
         number: u32,
     },
-    /// Two files aren't the same: the first value that differs.
-    Differs(Spot),
+    /// Two files aren't the same: the first value that differs, as both have it.
+    Differs(Difference),
     /// The second of two files violates a rule of the standard at a byte.
     SecondRule {
         /// The rule, 1 to 35.

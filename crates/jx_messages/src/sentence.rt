@@ -161,7 +161,9 @@ fn explained(alloc: Global, refusal: Refusal, words: &[String]) -> Result<String
             down,
         } => misfit(alloc, place, comp, res, across, down, words),
         Refusal::Block { number } => block(alloc, number, words),
-        Refusal::Differs(spot) => differs_text(alloc, spot, name_at(words, 0), name_at(words, 1)),
+        Refusal::Differs(difference) => {
+            differs_text(alloc, difference, name_at(words, 0), name_at(words, 1))
+        }
         Refusal::SecondRule { number, place } => rule(alloc, number, place, name_at(words, 1)),
         Refusal::SecondLimit { number, found } => limit(alloc, number, found, name_at(words, 1)),
         Refusal::ReadFault => read_fault(alloc, words),

@@ -13,4 +13,5 @@ mod SharedLemmas
 mod ShelfLemmas
 mod StepLemmas
 mod TileLemmas
+mod ValueLemmas
 mod WithinLemmas

@@ -21,9 +21,12 @@ use Rattle.jx_codestream.specs.Shapes.{geometry, size_in}
 use Rattle.jx_plan.specs.Meaning.{Component, Meaning, Place}
 use Rattle.jx_same.specs.declared.answer.Answer.{Answer}
 use Rattle.jx_same.specs.declared.answer.Answer.TheVariants.{Differs, Same}
+use Rattle.jx_same.specs.declared.answer.Difference.{Difference}
 use Rattle.jx_same.specs.declared.answer.Field.{Field}
 use Rattle.jx_same.specs.declared.answer.Field.TheVariants as field
 use Rattle.jx_same.specs.declared.answer.Spot.{Spot}
+use Rattle.jx_same.specs.declared.answer.Value.{Value}
+use Rattle.jx_same.specs.declared.answer.Value.TheVariants as value
 
 -- ---- where a value stands: a spot has 0 and LL for what its field lacks
 -- of the picture, that of its first component
@@ -141,11 +144,39 @@ tile_items s t = joined (component_items (geometry s t)) 0 (length s.siz.comps)
 unfoldable pub items_of : Stream → List Spot
 items_of s = picture_items s.siz ++ joined (tile_items s) 0 (tile_number s.siz)
 
--- ---- the answer: where the first of these values differs
-abbrev pub answer_at : Option Spot → Answer
-answer_at None = Same
-answer_at (Some s) = Differs s
+-- ---- what a meaning says at a spot
+abbrev pub canvas_value : Siz → Value
+canvas_value z = value.Canvas z.x1 z.y1 z.x0 z.y0 z.tw z.th z.tx z.ty
+
+abbrev pub factors_value : CompSize → Value
+factors_value size = value.Factors size.dx size.dy
+
+abbrev pub coef_value : Coef → Value
+coef_value c = value.Coef c.negative c.bits c.planes
+
+abbrev pub value_at : Field → Meaning → Spot → Value
+value_at field.Canvas m s = canvas_value m.siz
+value_at field.Components m s = value.Number (length m.siz.comps)
+value_at field.Depth m s = value.Number (size_in m.siz s.comp).ssiz
+value_at field.Sampling m s = factors_value (size_in m.siz s.comp)
+value_at field.Levels m s = value.Number (component_at m s).levels
+value_at field.Wavelet m s = value.Number (component_at m s).wavelet
+value_at field.Transform m s = value.Number (component_at m s).transform
+value_at field.Quant m s = value.Number (component_at m s).quant
+value_at field.Guard m s = value.Number (component_at m s).guard
+value_at field.Shift m s = value.Number (component_at m s).shift
+value_at field.Exponent m s = value.Number (step_at m s).0
+value_at field.Mantissa m s = value.Number (step_at m s).1
+value_at field.Coef m s = coef_value (coef_at_spot m s)
+
+abbrev pub difference_at : Meaning → Meaning → Spot → Difference
+difference_at a b s = record { spot = s; first = value_at s.field a s; second = value_at s.field b s }
+
+-- ---- the answer: the first of these values that differs, as both have it
+abbrev pub answer_at : Meaning → Meaning → Option Spot → Answer
+answer_at a b None = Same
+answer_at a b (Some s) = Differs (difference_at a b s)
 
 -- of two meanings, in the order of a stream
 abbrev pub answer_of : Stream → Meaning → Meaning → Answer
-answer_of s a b = answer_at (find (differs a b) (items_of s))
+answer_of s a b = answer_at a b (find (differs a b) (items_of s))

@@ -52,11 +52,50 @@ pub struct Spot {
     pub y: u32,
 }
 
+/// What a codestream says where a value stands, by what it is.
+#[derive(Clone, Copy, Debug, PartialEq, Eq)]
+pub enum Value {
+    /// Of `Canvas` (A.5.1): Xsiz, Ysiz, XOsiz, YOsiz, XTsiz, YTsiz, XTOsiz and YTOsiz.
+    Canvas {
+        x1: u32,
+        y1: u32,
+        x0: u32,
+        y0: u32,
+        tw: u32,
+        th: u32,
+        tx: u32,
+        ty: u32,
+    },
+    /// Of `Sampling` (A.5.1): XRsiz and YRsiz.
+    Factors { dx: u8, dy: u8 },
+    /// Of `Coef`: the sign, the magnitude in whole coded planes, and how many planes are decoded, the zero planes among them where the
+    /// code-block has a pass. A positive 0 without decoded planes where no code-block has the place.
+    Coef {
+        negative: bool,
+        bits: u128,
+        planes: u16,
+    },
+    /// Of all others the number that the headers have: Csiz, Ssiz, levels, wavelet (Table A.20), component transform (Table A.17), style of
+    /// quantization and guard bits (Table A.28), the shift of a region of interest, an exponent, a mantissa.
+    Number(u16),
+}
+
+/// A value in which two codestreams differ.
+#[derive(Clone, Copy, Debug, PartialEq, Eq)]
+pub struct Difference {
+    /// Where it stands.
+    pub spot: Spot,
+    /// What the first codestream says there.
+    pub first: Value,
+    /// What the second says there.
+    pub second: Value,
+}
+
 /// Whether two codestreams have the same coefficients, sign by sign and bit by bit, with the same steps and wavelets.
 #[derive(Clone, Copy, Debug, PartialEq, Eq)]
 pub enum Answer {
     /// They have.
     Same,
     /// They haven't: the first value in which they differ.
-    Differs(Spot),
+    Differs(Difference),
 }

@@ -8,9 +8,10 @@ ghost use Rattle.jx_tier1_specs.specs.Cells.{coef_at};
 ghost use Rattle.jx_codeblock.specs.Recoding.{own_segments};
 ghost use Rattle.jx_codeblock.specs.Written.{own_cells};
 ghost use Rattle.jx_plan.specs.Meaning.{Place, planes_decoded, sample_in};
-ghost use Rattle.jx_same.specs.Items.{same_coef, same_sign};
+ghost use Rattle.jx_same.specs.Items.{coef_value, same_coef, same_sign};
 ghost use Rattle.jx_same.specs.Sides.{AreAlike, same_heads, same_span};
 
+use crate::Value;
 use crate::segments::{lent, same_lists, segments_of};
 use jx_base::{Block, NoMemory, Rect, Span};
 use jx_tier1::{Coded, Coef, FlagGrid, decode_flags};
@@ -131,6 +132,19 @@ impl<'a> Decoded<'a> {
     {
         let rect = self.block.rect;
         self.grid.get((x - rect.x.low) as u16, y - rect.y.low)
+    }
+
+    /// The coefficient of a place of the block, with the planes that are decoded.
+    pub(crate) fn value(&self, x: u32, y: u32) -> Value
+        requires { InRect self.now.rect x y }
+        ensures { (p : Place) → p.x ≡ x → p.y ≡ y → result ≡ coef_value (sample_in p self.now) }
+    {
+        let coef = self.at(x, y);
+        Value::Coef {
+            negative: coef.negative,
+            bits: coef.bits,
+            planes: planes_of(self.block, coef),
+        }
     }
 
     /// Whether two blocks that have a place have the same coefficient there: sign, magnitude bits and decoded planes.

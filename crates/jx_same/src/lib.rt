@@ -13,7 +13,8 @@ mod segments;
 mod shelf;
 mod side;
 mod tiles;
+mod values;
 mod whole;
 
-pub use answer::{Answer, Field, Spot};
+pub use answer::{Answer, Difference, Field, Spot, Value};
 pub use whole::compare;

@@ -11,6 +11,7 @@ ghost use Rattle.jx_same.specs.declared.answer.Answer.TheVariants as told;
 use crate::headers::compare_pictures;
 use crate::input::Input;
 use crate::tiles::compare_tiles;
+use crate::values::difference_at;
 use crate::{Answer, Spot};
 use jx_base::{Block, NoMemory};
 use jx_codestream::Stream;
@@ -39,7 +40,7 @@ fn first_differing<R: Threads + Sync>(
 /// Whether two codestreams that were read, with the code-blocks that were gathered of them, mean the same: the picture's canvas, each
 /// component's depth and subsampling, how each tile-component is transformed and quantized, and of each place of each band the sign,
 /// the magnitude bits and the decoded planes of the coefficient (ITU-T T.800, A.5, A.6, B.3 to B.7, D and E), whatever their packets,
-/// layers, precincts, sizes of code-blocks and styles are. The first value that differs is told, in the order of `a`'s code-blocks.
+/// layers, precincts, sizes of code-blocks and styles are. The first value that differs is told, as both have it, in the order of `a`'s code-blocks.
 ///
 /// Code-blocks of both that have the same places, passes, style and segments aren't decoded. The others are, by `threads` threads, 1 to
 /// 64, on which the answer doesn't depend; with one none is started. Each takes a run of at most 16 code-blocks of one band of `a`, and
@@ -75,6 +76,6 @@ pub fn compare<R: Threads + Sync>(
     };
     Ok(match first_differing(rt, alloc, threads, a, b)? {
         None => Answer::Same,
-        Some(spot) => Answer::Differs(spot),
+        Some(spot) => Answer::Differs(difference_at(alloc, &a, &b, spot)?),
     })
 }

@@ -14,7 +14,7 @@ use std::test::Fail;
 use std::thread::Threads;
 
 // SOC and SIZ up to the components, of one place in one tile, of two places in two tiles, and of 8 by 8 places.
-const ONE: &str =
+pub(crate) const ONE: &str =
     "FF4F FF51 0029 0000 00000001 00000001 00000000 00000000 00000001 00000001 00000000 00000000";
 
 const TWO: &str =
@@ -27,11 +27,11 @@ const WIDE: &str =
 const THIN: &str =
     "FF4F FF51 002C 0000 00000002 00000001 00000000 00000000 00000001 00000001 00000000 00000000";
 
-const COMP: &str = "0001 07 01 01";
+pub(crate) const COMP: &str = "0001 07 01 01";
 
 const COMPS: &str = "0002 07 01 01 07 02 01";
 // Code-blocks of 64 by 64, of 8 by 8 and of 4 by 4; each pass terminated; one level; the 9-7 wavelet.
-const PLAIN: &str = "FF52 000C 00 00 0001 00 00 04 04 00 01";
+pub(crate) const PLAIN: &str = "FF52 000C 00 00 0001 00 00 04 04 00 01";
 
 const EIGHT: &str = "FF52 000C 00 00 0001 00 00 01 01 00 01";
 
@@ -43,11 +43,11 @@ const LEVEL: &str = "FF52 000C 00 00 0001 00 01 04 04 00 01";
 
 const LOSSY: &str = "FF52 000C 00 00 0001 00 00 04 04 00 00";
 // The exponent is 8; 9; with one guard bit; four bands; scalar quantization, derived and expounded, with mantissas 0 and 1.
-const STEP: &str = "FF5C 0004 40 40";
+pub(crate) const STEP: &str = "FF5C 0004 40 40";
 
-const FINER: &str = "FF5C 0004 40 48";
+pub(crate) const FINER: &str = "FF5C 0004 40 48";
 
-const GUARD: &str = "FF5C 0004 20 40";
+pub(crate) const GUARD: &str = "FF5C 0004 20 40";
 
 const BANDS: &str = "FF5C 0007 40 40 40 40 40";
 
@@ -59,16 +59,16 @@ const MANTISSA: &str = "FF5C 0005 42 4001";
 
 const SHIFTED: &str = "FF5C 0004 40 40 FF5E 0005 00 00 01";
 
-const EMPTY: &str = "FF90 000A 0000 0000000F 00 01 FF93 00 FFD9";
+pub(crate) const EMPTY: &str = "FF90 000A 0000 0000000F 00 01 FF93 00 FFD9";
 
 const EMPTIES: &str = "FF90 000A 0000 00000010 00 01 FF93 00 00 FFD9";
 
 // What a block of one coding pass has: +1, -1, and 0, which is a plane more than nothing.
-const PLUS: &str = "FF90 000A 0000 00000011 00 01 FF93 C0 21 03 FFD9";
+pub(crate) const PLUS: &str = "FF90 000A 0000 00000011 00 01 FF93 C0 21 03 FFD9";
 
-const MINUS: &str = "FF90 000A 0000 00000011 00 01 FF93 C0 21 07 FFD9";
+pub(crate) const MINUS: &str = "FF90 000A 0000 00000011 00 01 FF93 C0 21 07 FFD9";
 
-const ZERO: &str = "FF90 000A 0000 00000011 00 01 FF93 C0 21 60 FFD9";
+pub(crate) const ZERO: &str = "FF90 000A 0000 00000011 00 01 FF93 C0 21 60 FFD9";
 // +2 in four passes: one segment, and four.
 const PASSES: &str = "FF90 000A 0000 00000012 00 01 FF93 C0 74 10 01 FFD9";
 
@@ -95,7 +95,7 @@ const UNLIKE: &str =
     "FF90 000A 0000 00000011 00 01 FF93 C0 21 03 FF90 000A 0001 00000011 00 01 FF93 C0 21 07 FFD9";
 
 /// A codestream by its parts.
-type Parts = [&'static str; 5];
+pub(crate) type Parts = [&'static str; 5];
 
 /// What is told of two codestreams: nothing where they are the same.
 type Row = (Parts, Parts, Option<Field>);
@@ -256,7 +256,7 @@ fn input<'a>(alloc: Global, file: &'a [u8]) -> Option<(Stream, Vec<Block<'a>>)>
 }
 
 // What is told of two files by so many threads; none where one of them is refused.
-fn answer<R: Threads + Sync>(
+pub(crate) fn answer<R: Threads + Sync>(
     rt: &R,
     alloc: Global,
     threads: u32,
@@ -271,29 +271,26 @@ fn answer<R: Threads + Sync>(
     compare(rt, alloc, threads, &sa, &ba, &sb, &bb).ok()
 }
 
+// Where two files differ; none where they are the same or one of them is refused.
+fn spot_in(answer: Option<Answer>) -> Option<Spot> {
+    match answer {
+        Some(Answer::Differs(difference)) => Some(difference.spot),
+        _ => None,
+    }
+}
+
 // A value of the first tile and component, at the first place.
-fn at_first(field: Field) -> Answer {
-    Answer::Differs(Spot {
-        field,
-        tile: 0,
-        comp: 0,
-        res: 0,
-        band: Band::LL,
-        x: 0,
-        y: 0,
-    })
+fn at_first(field: Field) -> Spot {
+    spot(field, 0, 0, 0, 0)
 }
 
 #[test]
 fn first_values_that_differ(rt: HostRuntime) -> Result<(), Fail> {
     for (number, (a, b, field)) in ROWS.iter().enumerate() {
-        let want = match field {
-            None => Answer::Same,
-            Some(field) => at_first(*field),
-        };
         for threads in [1, 2, 64] {
             let found = answer(&rt, rt.alloc(), threads, a, b);
-            equal_at(&rt, &(number, threads), found, Some(want));
+            equal_at(&rt, &(number, threads), found == Some(Answer::Same), field.is_none());
+            equal_at(&rt, &(number, threads), spot_in(found), field.map(at_first));
         }
     }
     Ok(())
@@ -340,7 +337,7 @@ fn other_spots(rt: HostRuntime) -> Result<(), Fail> {
     ];
     for (number, (a, b, want)) in rows.iter().enumerate() {
         let found = answer(&rt, rt.alloc(), 3, a, b);
-        equal_at(&rt, &number, found, Some(Answer::Differs(*want)));
+        equal_at(&rt, &number, spot_in(found), Some(*want));
     }
     Ok(())
 }

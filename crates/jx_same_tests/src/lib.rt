@@ -7,3 +7,5 @@ mod checks;
 mod compare_tests;
 #[cfg(test)]
 mod hex;
+#[cfg(test)]
+mod values_tests;

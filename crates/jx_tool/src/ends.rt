@@ -94,7 +94,7 @@ fn refusal_of(status: Status, misfit: Option<Misfit>) -> Option<Refusal> {
         Status::Limit { number, found } => Some(Refusal::Limit { number, found }),
         Status::Choice { number, place } => Some(choice_of(number, place, misfit)),
         Status::Block { number } => Some(Refusal::Block { number }),
-        Status::Unlike(Unlike::Differs(spot)) => Some(Refusal::Differs(spot)),
+        Status::Unlike(Unlike::Differs(difference)) => Some(Refusal::Differs(difference)),
         Status::Unlike(Unlike::SecondRule { number, place }) => {
             Some(Refusal::SecondRule { number, place })
         }

@@ -64,7 +64,7 @@ self_none m [] = refl
 self_none m (s ∷ items) = let e : agree s.field m m s ≡ true = agree_self s.field m s in rw e (self_none m items)
 
 one_answer : (s : Stream) (a b : Meaning) → b ≡ a → answer.Same ≡ answer_of s a b
-one_answer s a b same = sym (ap (answer_of s a) same ∙ ap answer_at (self_none a (items_of s)))
+one_answer s a b same = sym (ap (answer_of s a) same ∙ ap (answer_at a a) (self_none a (items_of s)))
 
 -- ---- an input and what was written of it
 abbrev pub blocks_of : (aim : Aim) (input out : List ℕ) → IsKept aim input out → List Block

@@ -80,7 +80,7 @@ second_calm read status.WriteFault is = absurd is
 
 answer_calm : {E : Type 0} (r : Result Answer E) → IsCalm (answer_status r)
 answer_calm (Ok answer.Same) = tt
-answer_calm (Ok (answer.Differs spot)) = tt
+answer_calm (Ok (answer.Differs difference)) = tt
 answer_calm (Err e) = tt
 
 pub unfit_unread : (read : List ℕ) (s : Status) → IsUnfit read s → (s ≡ status.ReadFault → ⊥) × (s ≡ status.WriteFault → ⊥)
@@ -96,7 +96,7 @@ answer_unread r t e failed = (calm (answer_status r) (answer_calm r)).0 (sym e �
 answered_verdict : {E : Type 0} (r : Result Answer E) (s : Stream) (blocks : List Block) (second : List ℕ) (other : Stream) (others : List Block) → IsAccepted second other others
     → IfOk r (λ told. told ≡ answer_of s (meaning_of s blocks) (meaning_of other others)) → SecondVerdict s blocks second (answer_status r)
 answered_verdict (Ok answer.Same) s blocks second other others accepted is = record { other = other; others = others; accepted = accepted; is = is }
-answered_verdict (Ok (answer.Differs spot)) s blocks second other others accepted is = record { other = other; others = others; accepted = accepted; is = is }
+answered_verdict (Ok (answer.Differs difference)) s blocks second other others accepted is = record { other = other; others = others; accepted = accepted; is = is }
 answered_verdict (Err e) s blocks second other others accepted is = tt
 
 pub second_answered : {E : Type 0} (r : Result Answer E) (name : Text) (read : List ℕ) (s : Stream) (blocks : List Block) (other : Stream) (others : List Block) (t : Status) (old new : Meaning) → t ≡ answer_status r
@@ -191,7 +191,7 @@ first_unfit names read t old new front same is = first_refused names t old new (
 both_verdict : (first second : List ℕ) (s : Stream) (blocks : List Block) (t : Status) → IsAccepted first s blocks → IsVerdict t → SecondVerdict s blocks second t → SameVerdict first second t
 both_verdict first second s blocks status.Done accepted v is =
     record { stream = s; blocks = blocks; accepted = accepted; other = is.other; others = is.others; accepted_too = is.accepted; is = is.is }
-both_verdict first second s blocks (status.Unlike (unlike.Differs spot)) accepted v is =
+both_verdict first second s blocks (status.Unlike (unlike.Differs difference)) accepted v is =
     record { stream = s; blocks = blocks; accepted = accepted; other = is.other; others = is.others; accepted_too = is.accepted; is = is.is }
 both_verdict first second s blocks (status.Unlike (unlike.SecondRule number place)) accepted v is = ((s, blocks, accepted), is)
 both_verdict first second s blocks (status.Unlike (unlike.SecondLimit number found)) accepted v is = ((s, blocks, accepted), is)
@@ -206,7 +206,7 @@ both_verdict first second s blocks status.NoMemory accepted v is = absurd v
 
 both_counts : (first : List ℕ) (s : Stream) (blocks : List Block) (t : Status) (count : ℕ) → IsAccepted first s blocks → count ≡ length blocks → TellsBlocks first t (blocks_after t count)
 both_counts first s blocks status.Done count accepted e = record { stream = s; blocks = blocks; accepted = accepted; count_is = e }
-both_counts first s blocks (status.Unlike (unlike.Differs spot)) count accepted e = record { stream = s; blocks = blocks; accepted = accepted; count_is = e }
+both_counts first s blocks (status.Unlike (unlike.Differs difference)) count accepted e = record { stream = s; blocks = blocks; accepted = accepted; count_is = e }
 both_counts first s blocks (status.Unlike (unlike.SecondRule number place)) count accepted e = refl
 both_counts first s blocks (status.Unlike (unlike.SecondLimit number found)) count accepted e = refl
 both_counts first s blocks status.Words count accepted e = refl
@@ -282,7 +282,7 @@ compared_said names s late count fault_before fault_now old new before now is (i
 
 none_after : (s : Status) → blocks_after s 0 ≡ 0
 none_after status.Done = refl
-none_after (status.Unlike (unlike.Differs spot)) = refl
+none_after (status.Unlike (unlike.Differs difference)) = refl
 none_after (status.Unlike (unlike.SecondRule number place)) = refl
 none_after (status.Unlike (unlike.SecondLimit number found)) = refl
 none_after status.Words = refl

@@ -62,7 +62,7 @@ rule_no_limit n p m q e = cc
 -- the status of an answer
 abbrev answered_as : Answer → Status
 answered_as answer.Same = status.Done
-answered_as (answer.Differs spot) = status.Unlike (unlike.Differs spot)
+answered_as (answer.Differs difference) = status.Unlike (unlike.Differs difference)
 
 module _ (laws : Laws) (boxes : OneCodestream) (one : HasOneFile) where
   one_inner : (input inner other : List ℕ) (from to : ℕ) → HasCodestream input from inner → HasCodestream input to other → other ≡ inner

@@ -20,15 +20,16 @@ use Rattle.jx_plan.specs.Meaning.{Meaning, meaning_of}
 use Rattle.jx_plan.specs.Plan.{MayBePlanned}
 use Rattle.jx_reduce.specs.Left.{IsLeft}
 use Rattle.jx_reduce.specs.Reduction.{siz_left, size_left}
-use Rattle.jx_same.specs.Items.{answer_of, answer_at, differs, items_of, picture_fields, same_canvas, same_sampling, size_items, spot_of_component, tile_items}
+use Rattle.jx_same.specs.Items.{answer_of, answer_at, difference_at, differs, factors_value, items_of, picture_fields, same_canvas, same_sampling, size_items, spot_of_component, tile_items}
 use Rattle.jx_same.specs.declared.answer.Answer.TheVariants as answer
+use Rattle.jx_same.specs.declared.answer.Difference.{Difference}
 use Rattle.jx_same.specs.declared.answer.Field.{Field}
 use Rattle.jx_same.specs.declared.answer.Field.TheVariants as field
 use Rattle.jx_same.specs.declared.answer.Spot.{Spot}
 use Rattle.jx_transcode.specs.Aims.{Aim}
 use Rattle.jx_transcode.specs.Outcome.{most_bytes}
 use Rattle.jx_transcode.specs.Rewritten.{IsKept}
-use Rattle.jx_transcode.specs.SameRun.{HasCodestream, SameVerdict}
+use Rattle.jx_transcode.specs.SameRun.{HasCodestream, SameVerdict, fewer_difference}
 use Rattle.jx_transcode.specs.declared.status.Status.TheVariants as status
 use Rattle.jx_transcode.specs.declared.status.Unlike.TheVariants as unlike
 use Rattle.jx_transcode.proofs.KeptSameLemmas.{blocks_of, canvas_self, same_number}
@@ -79,6 +80,9 @@ grows n d some more =
     let twice : n * 2 ≤ n * 2 ^ d = mul-le-mul_left n (omega (arith, two)) in
     omega (arith, twice, some)
 
+abbrev sampling_by : CompSize → CompSize → Difference
+sampling_by one two = record { spot = first_spot field.Sampling; first = factors_value one; second = factors_value two }
+
 module _ (d : ℕ) (a b : Meaning) (is : IsLeft d a b) (size : CompSize) (rest : List CompSize) (first : a.siz.comps ≡ size ∷ rest) (some : 0 < size.dx) (more : 1 ≤ d) where
   size_here : size_in a.siz 0 ≡ size
   size_here = rw first refl
@@ -108,18 +112,27 @@ module _ (d : ℕ) (a b : Meaning) (is : IsLeft d a b) (size : CompSize) (rest :
       ∙ ap (λ (x : CompSize). not (same_sampling size x)) size_there
       ∙ ap not (and_left (size.dx == size.dx * 2 ^ d) (size.dy == size.dy * 2 ^ d) factor_grows)
 
-pub sampling_told : (d : ℕ) (s : Stream) (a b : Meaning) → IsLeft d a b → a.siz.comps ≡ s.siz.comps → 1 ≤ length s.siz.comps → All (λ (size : CompSize). 0 < size.dx) s.siz.comps → 1 ≤ d
-    → answer.Differs (first_spot field.Sampling) ≡ answer_of s a b
+  -- the factors that the second has
+  factors_there : size_in b.siz 0 ≡ size_left d (size_in a.siz 0)
+  factors_there = ap (λ (z : Siz). size_in z 0) is.siz ∙ size_there ∙ ap (size_left d) (sym size_here)
+
+  both_told : difference_at a b (first_spot field.Sampling) ≡ fewer_difference d (size_in a.siz 0)
+  both_told = ap (λ (size : CompSize). sampling_by (size_in a.siz 0) size) factors_there
+
+pub sampling_told : (d : ℕ) (s : Stream) (a b : Meaning) → IsLeft d a b → a.siz ≡ s.siz → 1 ≤ length s.siz.comps → All (λ (size : CompSize). 0 < size.dx) s.siz.comps → 1 ≤ d
+    → answer.Differs (fewer_difference d (size_in s.siz 0)) ≡ answer_of s a b
 sampling_told d s a b is same some each more =
     let first = first_of s.siz.comps some in
     let begins = items_begin s some in
-    let here : a.siz.comps ≡ first.size ∷ first.rest = same ∙ first.is in
+    let here : a.siz.comps ≡ first.size ∷ first.rest = ap (λ (z : Siz). z.comps) same ∙ first.is in
     let wide : 0 < first.size.dx = first_wide s.siz.comps first each in
-    sym (ap (λ (xs : List Spot). answer_at (find (differs a b) xs)) begins.1 ∙ ap answer_at (found_fourth (differs a b) (first_spot field.Canvas) (first_spot field.Components) (first_spot field.Depth) (first_spot field.Sampling) begins.0
+    sym (ap (λ (xs : List Spot). answer_at a b (find (differs a b) xs)) begins.1 ∙ ap (answer_at a b) (found_fourth (differs a b) (first_spot field.Canvas) (first_spot field.Components) (first_spot field.Depth) (first_spot field.Sampling) begins.0
     (canvas_agrees d a b is first.size first.rest here wide more)
     (count_agrees d a b is first.size first.rest here wide more)
     (depth_agrees d a b is first.size first.rest here wide more)
-    (sampling_differs d a b is first.size first.rest here wide more)))
+    (sampling_differs d a b is first.size first.rest here wide more))
+    ∙ ap (λ (x : Difference). answer.Differs x) (both_told d a b is first.size first.rest here wide more)
+    ∙ ap (λ (z : Siz). answer.Differs (fewer_difference d (size_in z 0))) same)
   where
     first_wide : (sizes : List CompSize) (first : HasFirst sizes) → All (λ (size : CompSize). 0 < size.dx) sizes → 0 < first.size.dx
     first_wide sizes first each = All-head (λ (size : CompSize). 0 < size.dx) first.size first.rest (subst (λ (xs : List CompSize). All (λ (size : CompSize). 0 < size.dx) xs) first.is each)
@@ -134,12 +147,12 @@ wide_comps siz fits k size inside = wide_size (slice_index_or siz.comps k size) 
         let two = and_parts (nat_lt 0 size.dx) (nat_lt 0 size.dy) one.1 in
         ltb-true 0 size.dx two.0
 
-same_comps : (s : Stream) (blocks : List Block) → (meaning_of s blocks).siz.comps ≡ s.siz.comps
+same_siz : (s : Stream) (blocks : List Block) → (meaning_of s blocks).siz ≡ s.siz
 unfolding meaning_of
-same_comps s blocks = refl
+same_siz s blocks = refl
 
 pub fewer_differ : WholeLaws → (aim : Aim) (input out inner again : List ℕ) (from to : ℕ) (kept : IsKept aim inner again) → 1 ≤ aim.reduce → length input ≤ most_bytes → length out ≤ most_bytes → HasCodestream input from inner
-    → HasCodestream out to again → totals_fault kept.after ≡ None → SameVerdict input out (status.Unlike (unlike.Differs (first_spot field.Sampling)))
+    → HasCodestream out to again → totals_fault kept.after ≡ None → SameVerdict input out (status.Unlike (unlike.Differs (fewer_difference aim.reduce (size_in kept.reads.whole.siz 0))))
 fewer_differ laws aim input out inner again from to kept more short short_out has has_out within =
     let whole : Stream = kept.reads.whole in
     let plan : MayBePlanned whole kept.reads.all = planned_of laws inner whole kept.reads.all (inner_short input inner from has short) kept.reads.reads in
@@ -151,5 +164,5 @@ fewer_differ laws aim input out inner again from to kept more short short_out ha
       others = blocks_of aim inner again kept;
       accepted_too = record { within = short_out; from = to; inner = again; has = has_out; reads = record { read = kept.kept.read; totals = within; gathered = kept.kept.gathered } };
       is = sampling_told aim.reduce whole (meaning_of whole kept.reads.all) (meaning_of kept.after (blocks_of aim inner again kept)) kept.left
-          (same_comps whole kept.reads.all) (siz_is whole.siz fits).some (wide_comps whole.siz fits) more;
+          (same_siz whole kept.reads.all) (siz_is whole.siz fits).some (wide_comps whole.siz fits) more;
     }

@@ -70,7 +70,7 @@ module _ (some : (aim : Aim) (input : List ℕ) → MayBeAimed aim → AreBytes 
 
   answered : (first second : List ℕ) (told : Answer) → AreAnswered first second told → (s : Status) × SameVerdict first second s
   answered first second answer.Same is = (status.Done, is)
-  answered first second (answer.Differs spot) is = (status.Unlike (unlike.Differs spot), is)
+  answered first second (answer.Differs difference) is = (status.Unlike (unlike.Differs difference), is)
 
   beside : (first second : List ℕ) → IsGoodInput first → IsJudged second → (s : Status) × SameVerdict first second s
   beside first second own (inl other) = answered first second (answer_of own.0 (meaning_of own.0 own.1) (meaning_of other.0 other.1)) (record {

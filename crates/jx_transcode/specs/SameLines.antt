@@ -10,7 +10,7 @@ use Rattle.jx_transcode.specs.declared.status.Unlike.{Unlike}
 use Rattle.jx_transcode.specs.declared.status.Unlike.TheVariants as unlike
 
 abbrev pub unlike_number : Unlike → ℕ
-unlike_number (unlike.Differs spot) = 11
+unlike_number (unlike.Differs difference) = 11
 unlike_number (unlike.SecondRule number place) = 12
 unlike_number (unlike.SecondLimit number found) = 13
 
@@ -45,6 +45,6 @@ abbrev pub spot_line : Spot → List ℕ
 spot_line s = decimal s.tile ++ (codes " " ++ (decimal s.comp ++ (codes " " ++ (decimal s.res ++ (codes " " ++ place_line s)))))
 
 abbrev pub unlike_line : Unlike → List ℕ
-unlike_line (unlike.Differs spot) = codes "differs: " ++ (field_name spot.field ++ (codes " at " ++ spot_line spot))
+unlike_line (unlike.Differs difference) = codes "differs: " ++ (field_name difference.spot.field ++ (codes " at " ++ spot_line difference.spot))
 unlike_line (unlike.SecondRule number place) = codes "second: rule " ++ (decimal number ++ (codes " at " ++ (decimal place ++ codes "\n")))
 unlike_line (unlike.SecondLimit number found) = codes "second: limit " ++ (decimal number ++ (codes ": " ++ (decimal found ++ codes "\n")))

@@ -5,13 +5,17 @@ use Rattle.jx_base.specs.declared.pieces.Block.{Block}
 use Rattle.jx_io.specs.Device.{Meaning, joined}
 use Rattle.jx_cli.specs.SameWords.{Pair}
 use Rattle.jx_cli.specs.Words.{Text}
+use Rattle.jx_marker.specs.declared.CompSize.{CompSize}
 use Rattle.jx_codestream.specs.declared.Stream.{Stream}
 use Rattle.jx_jp2.specs.declared.Boxed.{Boxed}
 use Rattle.jx_jp2.specs.Codestream.{IsCodestream, IsJp2, IsNextFault, content}
 use Rattle.jx_plan.specs.Meaning.{meaning_of}
-use Rattle.jx_same.specs.Items.{answer_of}
+use Rattle.jx_reduce.specs.Reduction.{size_left}
+use Rattle.jx_same.specs.Items.{answer_of, factors_value, spot_of_component}
 use Rattle.jx_same.specs.declared.answer.Answer.{Answer}
 use Rattle.jx_same.specs.declared.answer.Answer.TheVariants as answer
+use Rattle.jx_same.specs.declared.answer.Difference.{Difference}
+use Rattle.jx_same.specs.declared.answer.Field.TheVariants as field
 use Rattle.jx_transcode.specs.Judged.{Passes, Violates}
 use Rattle.jx_transcode.specs.Outcome.{IsUntouched, IsVerdict, Says, line_of, most_bytes}
 use Rattle.jx_transcode.specs.Rewritten.{Reads}
@@ -67,7 +71,7 @@ abbrev pub SameVerdict : List ℕ → List ℕ → Status → Type 0
 SameVerdict first second status.Done = AreAnswered first second answer.Same
 SameVerdict first second (status.Rule number place) = BreaksRule first number place
 SameVerdict first second (status.Limit number found) = BreaksLimit first number found
-SameVerdict first second (status.Unlike (unlike.Differs spot)) = AreAnswered first second (answer.Differs spot)
+SameVerdict first second (status.Unlike (unlike.Differs difference)) = AreAnswered first second (answer.Differs difference)
 SameVerdict first second (status.Unlike (unlike.SecondRule number place)) = IsGoodInput first × BreaksRule second number place
 SameVerdict first second (status.Unlike (unlike.SecondLimit number found)) = IsGoodInput first × BreaksLimit second number found
 SameVerdict first second status.Words = ⊥
@@ -76,6 +80,10 @@ SameVerdict first second (status.Block number) = ⊥
 SameVerdict first second status.ReadFault = ⊥
 SameVerdict first second status.WriteFault = ⊥
 SameVerdict first second status.NoMemory = ⊥
+
+-- a first component of this size, and the same without its d highest resolutions
+abbrev pub fewer_difference : ℕ → CompSize → Difference
+fewer_difference d size = record { spot = spot_of_component 0 0 field.Sampling; first = factors_value size; second = factors_value (size_left d size) }
 
 -- ---- how a run ends
 abbrev pub same_line : Status → List ℕ
@@ -92,7 +100,7 @@ pub record HasBlocksOf (first : List ℕ) (count : ℕ) : Type 0 where
 -- the blocks that are told: those of the first file after an answer, else none
 abbrev pub TellsBlocks : List ℕ → Status → ℕ → Type 0
 TellsBlocks first status.Done blocks = HasBlocksOf first blocks
-TellsBlocks first (status.Unlike (unlike.Differs spot)) blocks = HasBlocksOf first blocks
+TellsBlocks first (status.Unlike (unlike.Differs difference)) blocks = HasBlocksOf first blocks
 TellsBlocks first s blocks = blocks ≡ 0
 
 -- how a run over good words of `same` ends on two inputs, which are what the files of these names hold, where that is told
@@ -141,7 +149,7 @@ second_status status.WriteFault = status.WriteFault
 -- the status of an answer, or where memory was refused
 abbrev pub answer_status : {E : Type 0} → Result Answer E → Status
 answer_status (Ok answer.Same) = status.Done
-answer_status (Ok (answer.Differs spot)) = status.Unlike (unlike.Differs spot)
+answer_status (Ok (answer.Differs difference)) = status.Unlike (unlike.Differs difference)
 answer_status (Err e) = status.NoMemory
 
 -- a codestream is answered by the second file
@@ -154,7 +162,7 @@ pub record IsAnsweredBy (s : Stream) (blocks : List Block) (second : List ℕ) (
 -- the status of a second file beside a codestream; a fault of reading and want of memory are free
 abbrev pub SecondVerdict : Stream → List Block → List ℕ → Status → Type 0
 SecondVerdict s blocks second status.Done = IsAnsweredBy s blocks second answer.Same
-SecondVerdict s blocks second (status.Unlike (unlike.Differs spot)) = IsAnsweredBy s blocks second (answer.Differs spot)
+SecondVerdict s blocks second (status.Unlike (unlike.Differs difference)) = IsAnsweredBy s blocks second (answer.Differs difference)
 SecondVerdict s blocks second (status.Unlike (unlike.SecondRule number place)) = BreaksRule second number place
 SecondVerdict s blocks second (status.Unlike (unlike.SecondLimit number found)) = BreaksLimit second number found
 SecondVerdict s blocks second status.ReadFault = Unit {0}
@@ -175,7 +183,7 @@ pub record IsSecondTold (name : Text) (s : Stream) (blocks : List Block) (t : St
 -- the blocks that are told, by how many the first file has
 abbrev pub blocks_after : Status → ℕ → ℕ
 blocks_after status.Done count = count
-blocks_after (status.Unlike (unlike.Differs spot)) count = count
+blocks_after (status.Unlike (unlike.Differs difference)) count = count
 blocks_after (status.Unlike (unlike.SecondRule number place)) count = 0
 blocks_after (status.Unlike (unlike.SecondLimit number found)) count = 0
 blocks_after status.Words count = 0

@@ -11,8 +11,7 @@ ghost use Rattle.jx_cli.specs.MakeWords.{Make, MayBeMade};
 ghost use Rattle.jx_transcode.specs.declared.status.Status.{Status};
 ghost use Rattle.jx_transcode.specs.declared.status.Status.TheVariants as status;
 ghost use Rattle.jx_transcode.specs.declared.status.Unlike.TheVariants as unlike;
-ghost use Rattle.jx_same.specs.Items.{spot_of_component};
-ghost use Rattle.jx_same.specs.declared.answer.Field.TheVariants as field;
+ghost use Rattle.jx_codestream.specs.Shapes.{size_in};
 ghost use Rattle.jx_io.specs.Device.{Meaning};
 ghost use Rattle.jx_cli.specs.Words.{Text};
 ghost use Rattle.jx_jp2.specs.declared.Boxed.{Boxed};
@@ -22,7 +21,7 @@ ghost use Rattle.jx_rounds.specs.declared.tape.TapeEntry.{TapeEntry};
 ghost use Rattle.jx_transcode.specs.Jp2Run.{EndsAround, FileVerdict, file_in};
 ghost use Rattle.jx_tile.specs.Totals.{totals_fault};
 ghost use Rattle.jx_transcode.specs.Rewritten.{IsKept, IsRewritten, Reads, ReadsLeft};
-ghost use Rattle.jx_transcode.specs.SameRun.{HasCodestream, SameVerdict};
+ghost use Rattle.jx_transcode.specs.SameRun.{HasCodestream, SameVerdict, fewer_difference};
 ghost use Rattle.jx_transcode.specs.TranscodeRun.{EndsBare};
 ghost use Rattle.jx_transcode.specs.MadeVerdict.{HasNoRule};
 ghost use Rattle.jx_transcode.specs.MakeRun.{aim_made, input_of};
@@ -148,10 +147,10 @@ pub fn kept_is_same()
 }
 
 /// What `transcode` wrote of an input with fewer resolutions differs from the input under `same` in the subsampling factors of the first
-/// component, where it is within the limits.
+/// component, which are 2^d times as large, where it is within the limits.
 pub fn fewer_differ()
     ensures { (aim : Aim) (input out inner again : List ℕ) (from to : ℕ) (kept : IsKept aim inner again) → 1 ≤ aim.reduce → length input ≤ most_bytes → length out ≤ most_bytes
-        → HasCodestream input from inner → HasCodestream out to again → totals_fault kept.after ≡ None → SameVerdict input out (status.Unlike (unlike.Differs (spot_of_component 0 0 field.Sampling))) }
+        → HasCodestream input from inner → HasCodestream out to again → totals_fault kept.after ≡ None → SameVerdict input out (status.Unlike (unlike.Differs (fewer_difference aim.reduce (size_in kept.reads.whole.siz 0)))) }
 {
     gathered_may_be_planned();
     whole_stays();

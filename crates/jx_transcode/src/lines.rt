@@ -60,9 +60,9 @@ fn unlike_line(alloc: Global, how: Unlike) -> Result<String, AllocError>
     ensures { IfOk result (λ line. string_bytes line ≡ unlike_line how) }
 {
     match how {
-        Unlike::Differs(spot) => {
-            let field = field_name(spot.field);
-            let at = spot_line(alloc, spot)?;
+        Unlike::Differs(difference) => {
+            let field = field_name(difference.spot.field);
+            let at = spot_line(alloc, difference.spot)?;
             format!(in alloc; "differs: {field} at {at}")
         }
         Unlike::SecondRule { number, place } => {

@@ -2,13 +2,13 @@
 
 use jx_plan::Misfit;
 use jx_rounds::TapeEntry;
-use jx_same::Spot;
+use jx_same::Difference;
 
 /// Why two files aren't the same, or can't be compared.
 #[derive(Clone, Copy, Debug, PartialEq, Eq)]
 pub enum Unlike {
-    /// They mean something else: the first value that differs.
-    Differs(Spot),
+    /// They mean something else: the first value that differs, as both have it.
+    Differs(Difference),
     /// The first is accepted, and the second violates a rule: its number, and the place of the byte.
     SecondRule { number: u8, place: u64 },
     /// The first is accepted, and the second passes a limit: its number, and what was counted.

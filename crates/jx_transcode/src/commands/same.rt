@@ -34,7 +34,7 @@ fn answer_status(answer: Result<Answer, NoMemory>) -> Status
 {
     match answer {
         Ok(Answer::Same) => Status::Done,
-        Ok(Answer::Differs(spot)) => Status::Unlike(Unlike::Differs(spot)),
+        Ok(Answer::Differs(difference)) => Status::Unlike(Unlike::Differs(difference)),
         Err(_) => Status::NoMemory,
     }
 }
