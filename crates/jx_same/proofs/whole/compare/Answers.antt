@@ -8,15 +8,15 @@ use Rattle.jx_same.proofs.OneLemmas.{means_one}
 use Rattle.jx_same.proofs.WithinLemmas.{none_differs}
 use Rattle.jx_same.proofs.whole.compare.Goals as goal
 
-pub returns-in-Some-clause-same : goal.returns-in-Some-clause-same
-returns-in-Some-clause-same g c = λ one.
+pub returns-in_ok-difference_at-in-Some-clause-same : goal.returns-in_ok-difference_at-in-Some-clause-same
+returns-in_ok-difference_at-in-Some-clause-same g c = λ one.
     (let own : Meaning = meaning_of c.args.sa.now c.args.ba.now in
     let items = items_of c.args.sa.now in
     let none = ap (λ (m : Meaning). find (differs own m) items) (sym one) ∙ self_none own items in
     absurd (some_none c.in-Some.spot (sym c.in-Some.is ∙ c.in_ok-first_differing.ensures ∙ none)))
 
-pub returns-in-Some-clause-within : goal.returns-in-Some-clause-within
-returns-in-Some-clause-within g c = λ one.
+pub returns-in_ok-difference_at-in-Some-clause-within : goal.returns-in_ok-difference_at-in-Some-clause-within
+returns-in_ok-difference_at-in-Some-clause-within g c = λ one.
     (let none = none_differs c.args.sa.now c.args.sb.now c.args.ba.now c.args.bb.now one in
     absurd (some_none c.in-Some.spot (sym c.in-Some.is ∙ c.in_ok-first_differing.ensures ∙ none)))
 
