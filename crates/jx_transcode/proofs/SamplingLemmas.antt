@@ -13,7 +13,7 @@ use Rattle.jx_marker.specs.declared.Siz.{Siz}
 use Rattle.jx_marker.specs.Rules.{comp_size_fits, siz_fits}
 use Rattle.jx_codestream.specs.declared.Stream.{Stream}
 use Rattle.jx_codestream.specs.First.{tile_number}
-use Rattle.jx_codestream.specs.Shapes.{size_in}
+use Rattle.jx_codestream.specs.Shapes.{no_size, size_in}
 use Rattle.jx_codestream.proofs.ShapeLemmas.{siz_is}
 use Rattle.jx_tile.specs.Totals.{totals_fault}
 use Rattle.jx_plan.specs.Meaning.{Meaning, meaning_of}
@@ -119,12 +119,12 @@ module _ (d : ℕ) (a b : Meaning) (is : IsLeft d a b) (size : CompSize) (rest :
   both_told : difference_at a b (first_spot field.Sampling) ≡ fewer_difference d (size_in a.siz 0)
   both_told = ap (λ (size : CompSize). sampling_by (size_in a.siz 0) size) factors_there
 
-pub sampling_told : (d : ℕ) (s : Stream) (a b : Meaning) → IsLeft d a b → a.siz ≡ s.siz → 1 ≤ length s.siz.comps → All (λ (size : CompSize). 0 < size.dx) s.siz.comps → 1 ≤ d
+pub sampling_told : (d : ℕ) (s : Stream) (a b : Meaning) → IsLeft d a b → a.siz.comps ≡ s.siz.comps → 1 ≤ length s.siz.comps → All (λ (size : CompSize). 0 < size.dx) s.siz.comps → 1 ≤ d
     → answer.Differs (fewer_difference d (size_in s.siz 0)) ≡ answer_of s a b
 sampling_told d s a b is same some each more =
     let first = first_of s.siz.comps some in
     let begins = items_begin s some in
-    let here : a.siz.comps ≡ first.size ∷ first.rest = ap (λ (z : Siz). z.comps) same ∙ first.is in
+    let here : a.siz.comps ≡ first.size ∷ first.rest = same ∙ first.is in
     let wide : 0 < first.size.dx = first_wide s.siz.comps first each in
     sym (ap (λ (xs : List Spot). answer_at a b (find (differs a b) xs)) begins.1 ∙ ap (answer_at a b) (found_fourth (differs a b) (first_spot field.Canvas) (first_spot field.Components) (first_spot field.Depth) (first_spot field.Sampling) begins.0
     (canvas_agrees d a b is first.size first.rest here wide more)
@@ -132,7 +132,7 @@ sampling_told d s a b is same some each more =
     (depth_agrees d a b is first.size first.rest here wide more)
     (sampling_differs d a b is first.size first.rest here wide more))
     ∙ ap (λ (x : Difference). answer.Differs x) (both_told d a b is first.size first.rest here wide more)
-    ∙ ap (λ (z : Siz). answer.Differs (fewer_difference d (size_in z 0))) same)
+    ∙ ap (λ (sizes : List CompSize). answer.Differs (fewer_difference d (slice_index_or sizes 0 no_size))) same)
   where
     first_wide : (sizes : List CompSize) (first : HasFirst sizes) → All (λ (size : CompSize). 0 < size.dx) sizes → 0 < first.size.dx
     first_wide sizes first each = All-head (λ (size : CompSize). 0 < size.dx) first.size first.rest (subst (λ (xs : List CompSize). All (λ (size : CompSize). 0 < size.dx) xs) first.is each)
@@ -147,9 +147,9 @@ wide_comps siz fits k size inside = wide_size (slice_index_or siz.comps k size) 
         let two = and_parts (nat_lt 0 size.dx) (nat_lt 0 size.dy) one.1 in
         ltb-true 0 size.dx two.0
 
-same_siz : (s : Stream) (blocks : List Block) → (meaning_of s blocks).siz ≡ s.siz
+same_comps : (s : Stream) (blocks : List Block) → (meaning_of s blocks).siz.comps ≡ s.siz.comps
 unfolding meaning_of
-same_siz s blocks = refl
+same_comps s blocks = refl
 
 pub fewer_differ : WholeLaws → (aim : Aim) (input out inner again : List ℕ) (from to : ℕ) (kept : IsKept aim inner again) → 1 ≤ aim.reduce → length input ≤ most_bytes → length out ≤ most_bytes → HasCodestream input from inner
     → HasCodestream out to again → totals_fault kept.after ≡ None → SameVerdict input out (status.Unlike (unlike.Differs (fewer_difference aim.reduce (size_in kept.reads.whole.siz 0))))
@@ -164,5 +164,5 @@ fewer_differ laws aim input out inner again from to kept more short short_out ha
       others = blocks_of aim inner again kept;
       accepted_too = record { within = short_out; from = to; inner = again; has = has_out; reads = record { read = kept.kept.read; totals = within; gathered = kept.kept.gathered } };
       is = sampling_told aim.reduce whole (meaning_of whole kept.reads.all) (meaning_of kept.after (blocks_of aim inner again kept)) kept.left
-          (same_siz whole kept.reads.all) (siz_is whole.siz fits).some (wide_comps whole.siz fits) more;
+          (same_comps whole kept.reads.all) (siz_is whole.siz fits).some (wide_comps whole.siz fits) more;
     }
