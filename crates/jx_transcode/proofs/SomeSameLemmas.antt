@@ -12,6 +12,7 @@ use Rattle.jx_same.specs.declared.answer.Answer.TheVariants as answer
 use Rattle.jx_transcode.specs.Aims.{Aim, MayBeAimed}
 use Rattle.jx_transcode.specs.Jp2Run.{FileVerdict, RefusesBoxes}
 use Rattle.jx_transcode.specs.Outcome.{Verdict, most_bytes}
+use Rattle.jx_transcode.specs.Rewritten.{ReadsLeft}
 use Rattle.jx_transcode.specs.SameRun.{AreAnswered, BreaksLimit, BreaksRule, HasCodestream, IsGoodInput, SameVerdict}
 use Rattle.jx_transcode.specs.declared.status.Status.{Status}
 use Rattle.jx_transcode.specs.declared.status.Status.TheVariants as status
@@ -24,15 +25,20 @@ use Rattle.jx_transcode.proofs.SameVerdictLemmas.{any_aim, inner_short}
 abbrev IsJudged : List ℕ → Type 0
 IsJudged input = IsGoodInput input ⊎ (((n : ℕ) × (p : ℕ) × BreaksRule input n p) ⊎ ((n : ℕ) × (p : ℕ) × BreaksLimit input n p))
 
+-- what is left of a codestream was read
+judged_left : (d : ℕ) (input inner : List ℕ) (from : ℕ) (s : Stream) (blocks : List Block) → HasCodestream input from inner → length input ≤ most_bytes → ReadsLeft d inner s blocks → IsJudged input
+judged_left d input inner from s blocks has short left = inl (left.whole, left.all, accepted_of input inner from left.whole left.all short has left.reads)
+
 judged_inner : (input inner : List ℕ) (from : ℕ) (s : Status) → HasCodestream input from inner → length input ≤ most_bytes → Verdict any_aim inner s → IsJudged input
-judged_inner input inner from status.Done has short v = inl (v.2.stream, v.2.blocks, accepted_of input inner from v.2.stream v.2.blocks short has v.2.reads)
+judged_inner input inner from status.Done has short v = judged_left 0 input inner from v.2.stream v.2.blocks has short v.2.reads
 judged_inner input inner from (status.Rule n p) has short v = inr (inl (n, from + p, (short, inr (from, inner, p, has, refl, v.1))))
 judged_inner input inner from (status.Limit n f) has short (inl (inl long)) = absurd (omega (arith, inner_short input inner from has short, long.0))
 judged_inner input inner from (status.Limit n f) has short (inl (inr passes)) = inr (inr (n, f, inr (short, from, inner, has, passes.1)))
-judged_inner input inner from (status.Limit n f) has short (inr over) = inl (over.1.stream, over.1.blocks, accepted_of input inner from over.1.stream over.1.blocks short has over.1.reads)
-judged_inner input inner from (status.Choice n p) has short (within, inl long) = inl (long.1.stream, long.1.blocks, accepted_of input inner from long.1.stream long.1.blocks short has long.1.reads)
-judged_inner input inner from (status.Choice n p) has short (within, inr over) = inl (over.stream, over.blocks, accepted_of input inner from over.stream over.blocks short has over.reads)
-judged_inner input inner from (status.Block n) has short v = inl (v.1.stream, v.1.blocks, accepted_of input inner from v.1.stream v.1.blocks short has v.1.reads)
+judged_inner input inner from (status.Limit n f) has short (inr over) = judged_left 0 input inner from over.1.stream over.1.blocks has short over.1.reads
+judged_inner input inner from (status.Choice n p) has short (within, inl long) = judged_left 0 input inner from long.1.stream long.1.blocks has short long.1.reads
+judged_inner input inner from (status.Choice n p) has short (within, inr (inl over)) = judged_left 0 input inner from over.stream over.blocks has short over.reads
+judged_inner input inner from (status.Choice n p) has short (within, inr (inr none)) = inl (none.stream, none.blocks, accepted_of input inner from none.stream none.blocks short has none.reads)
+judged_inner input inner from (status.Block n) has short v = judged_left 0 input inner from v.1.stream v.1.blocks has short v.1.reads
 judged_inner input inner from (status.Unlike how) has short v = absurd v
 judged_inner input inner from status.Words has short v = absurd v
 judged_inner input inner from status.ReadFault has short v = absurd v
