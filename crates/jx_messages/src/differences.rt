@@ -177,12 +177,7 @@ fn number_text(alloc: Global, field: Field, number: u16) -> Result<String, Alloc
 }
 
 /// A coefficient.
-fn coef_text(
-    alloc: Global,
-    negative: bool,
-    bits: u128,
-    planes: u16,
-) -> Result<String, AllocError>
+fn coef_text(alloc: Global, negative: bool, bits: u128, planes: u16) -> Result<String, AllocError>
     ensures { IfOk result (λ text. string_bytes text ≡ coef_words negative bits planes) }
 {
     let sign = if negative { "-" } else { "" };

@@ -52,4 +52,3 @@ coef_is s blocks x b is = ap (λ (o : Option Block). coef_or (option_map (sample
 pub no_coef : (s : Stream) (blocks : List Block) (x : Spot) → find (lies_in (place_of x)) blocks ≡ None → coef_at_spot (meaning_of s blocks) x ≡ zero_coef
 unfolding meaning_of
 no_coef s blocks x is = ap (λ (o : Option Block). coef_or (option_map (sample_in (place_of x)) o)) is
-

@@ -67,7 +67,10 @@ pub enum Value {
         ty: u32,
     },
     /// Of `Sampling` (A.5.1): XRsiz and YRsiz.
-    Factors { dx: u8, dy: u8 },
+    Factors {
+        dx: u8,
+        dy: u8,
+    },
     /// Of `Coef`: the sign, the magnitude in whole coded planes, and how many planes are decoded, the zero planes among them where the
     /// code-block has a pass. A positive 0 without decoded planes where no code-block has the place.
     Coef {

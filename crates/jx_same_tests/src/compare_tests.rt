@@ -289,7 +289,12 @@ fn first_values_that_differ(rt: HostRuntime) -> Result<(), Fail> {
     for (number, (a, b, field)) in ROWS.iter().enumerate() {
         for threads in [1, 2, 64] {
             let found = answer(&rt, rt.alloc(), threads, a, b);
-            equal_at(&rt, &(number, threads), found == Some(Answer::Same), field.is_none());
+            equal_at(
+                &rt,
+                &(number, threads),
+                found == Some(Answer::Same),
+                field.is_none(),
+            );
             equal_at(&rt, &(number, threads), spot_in(found), field.map(at_first));
         }
     }
