@@ -106,9 +106,14 @@ abbrev pub factor_words : ℕ → ℕ → Text
 factor_words dx dy = decimal dx ++ (codes " by " ++ decimal dy)
 
 -- the picture's and the tiles' places on the reference grid
+abbrev pub picture_words : ℕ → ℕ → ℕ → ℕ → Text
+picture_words x1 y1 x0 y0 = decimal x0 ++ (codes "," ++ (decimal y0 ++ (codes " to " ++ (decimal x1 ++ (codes "," ++ decimal y1)))))
+
+abbrev pub tiles_words : ℕ → ℕ → ℕ → ℕ → Text
+tiles_words tw th tx ty = decimal tw ++ (codes " by " ++ (decimal th ++ (codes " from " ++ (decimal tx ++ (codes "," ++ decimal ty)))))
+
 abbrev pub canvas_words : ℕ → ℕ → ℕ → ℕ → ℕ → ℕ → ℕ → ℕ → Text
-canvas_words x1 y1 x0 y0 tw th tx ty =
-    decimal x0 ++ (codes "," ++ (decimal y0 ++ (codes " to " ++ (decimal x1 ++ (codes "," ++ (decimal y1 ++ (codes ", tiles of " ++ (decimal tw ++ (codes " by " ++ (decimal th ++ (codes " from " ++ (decimal tx ++ (codes "," ++ decimal ty)))))))))))))
+canvas_words x1 y1 x0 y0 tw th tx ty = picture_words x1 y1 x0 y0 ++ (codes ", tiles of " ++ tiles_words tw th tx ty)
 
 abbrev pub coef_words : Bool → ℕ → ℕ → Text
 coef_words negative bits planes = (if negative then codes "-" else codes "") ++ (decimal bits ++ (codes " in " ++ (decimal planes ++ codes " planes")))

@@ -1,6 +1,6 @@
 //! The first value in which two codestreams differ, in words.
 ghost use Rattle.std.specs.Prelude.{◌≡◌, IfOk, string_bytes};
-ghost use Rattle.jx_messages.specs.Differences.{band_words, coef_words, column_words, component_words, depth_words, differs_sentence, field_section, field_words, number_words, place_words, quant_words, spot_words, step_words, tile_words, transform_words, value_words, values_words, wavelet_words};
+ghost use Rattle.jx_messages.specs.Differences.{band_words, coef_words, column_words, component_words, depth_words, differs_sentence, field_section, field_words, number_words, picture_words, place_words, quant_words, spot_words, step_words, tile_words, tiles_words, transform_words, value_words, values_words, wavelet_words};
 
 use jx_base::Band;
 use jx_same::{Difference, Field, Spot, Value};
@@ -184,6 +184,20 @@ fn coef_text(alloc: Global, negative: bool, bits: u128, planes: u16) -> Result<S
     format!(in alloc; "{sign}{bits} in {planes} planes")
 }
 
+/// Where the picture lies.
+fn picture_text(alloc: Global, x1: u32, y1: u32, x0: u32, y0: u32) -> Result<String, AllocError>
+    ensures { IfOk result (λ text. string_bytes text ≡ picture_words x1 y1 x0 y0) }
+{
+    format!(in alloc; "{x0},{y0} to {x1},{y1}")
+}
+
+/// The tiles' size, and where the first begins.
+fn tiles_text(alloc: Global, tw: u32, th: u32, tx: u32, ty: u32) -> Result<String, AllocError>
+    ensures { IfOk result (λ text. string_bytes text ≡ tiles_words tw th tx ty) }
+{
+    format!(in alloc; "{tw} by {th} from {tx},{ty}")
+}
+
 /// A value of a field.
 fn value_text(alloc: Global, field: Field, value: Value) -> Result<String, AllocError>
     ensures { IfOk result (λ text. string_bytes text ≡ value_words field value) }
@@ -198,7 +212,11 @@ fn value_text(alloc: Global, field: Field, value: Value) -> Result<String, Alloc
             th,
             tx,
             ty,
-        } => format!(in alloc; "{x0},{y0} to {x1},{y1}, tiles of {tw} by {th} from {tx},{ty}"),
+        } => {
+            let picture = picture_text(alloc, x1, y1, x0, y0)?;
+            let tiles = tiles_text(alloc, tw, th, tx, ty)?;
+            format!(in alloc; "{picture}, tiles of {tiles}")
+        }
         Value::Factors { dx, dy } => format!(in alloc; "{dx} by {dy}"),
         Value::Coef {
             negative,
