@@ -181,6 +181,7 @@ def main():
         for at, it in enumerate(sorted(found, key=lambda it: -it[by])[:10]):
             print(f"  {it[0]:.3f} s {it[1]:,} KiB, {it[2]:,} bytes, status {it[3]}: {it[4]}")
             if asked.k:
+                os.makedirs(asked.k, exist_ok=True)
                 with open(os.path.join(asked.k, f"{title.split()[1]}_{at}.j2k"), "wb") as file:
                     file.write(it[5])
 
