@@ -6,5 +6,6 @@ mod PackedLemmas
 mod PartLemmas
 pub mod TakenLemmas
 pub mod TapedLemmas
+pub mod SentLemmas
 mod TileLemmas
 pub mod WriteLemmas

@@ -2,11 +2,14 @@
 //! written, one after another.
 #![tactic(auto)]
 
+mod blind_writer;
 mod buffer;
 mod crew;
 mod file_writer;
 mod halt;
+mod lengths;
 mod making;
+mod measure;
 mod memory_writer;
 mod packed;
 mod rounds;
@@ -19,7 +22,8 @@ pub use buffer::ENOUGH;
 pub use crew::Crew;
 pub use halt::{Halt, halt_of};
 pub use making::Making;
+pub use measure::{Held, held_parts, measured_parts};
 pub use memory_writer::MemoryWriter;
 pub use tape::TapeEntry;
-pub use write::write_codestream;
+pub use write::{write_codestream, write_held};
 pub use writer::ByteWriter;
