@@ -114,7 +114,7 @@ is_value _ word = false
 
 -- what stands in the tile-parts where no option is among the words
 abbrev pub no_marks : Marks
-no_marks = record { sop = false; eph = false; plt = false; parts = parts.None }
+no_marks = record { sop = false; eph = false; plt = false; tlm = false; parts = parts.None }
 
 -- ---- what the help says beside that
 

@@ -54,6 +54,8 @@ pub struct Marks {
     pub eph: bool,
     /// Whether PLT segments give the lengths of the packets (A.7.3).
     pub plt: bool,
+    /// Whether TLM segments give the lengths of the tile-parts (A.7.1).
+    pub tlm: bool,
     /// Where a tile is cut into tile-parts (A.4.2).
     pub parts: PartChoice,
 }
@@ -67,6 +69,7 @@ impl Marks {
             sop: false,
             eph: false,
             plt: false,
+            tlm: false,
             parts: PartChoice::None,
         }
     }

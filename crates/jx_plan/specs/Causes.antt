@@ -9,7 +9,7 @@ use Rattle.jx_plan.specs.declared.faults.PlanFault.{PlanFault}
 use Rattle.jx_plan.specs.declared.faults.PlanFault.TheVariants as fault
 use Rattle.jx_layers.specs.Causal.{first_broken}
 use Rattle.jx_plan.specs.Fits.{Fits}
-use Rattle.jx_plan.specs.Groups.{HasFewParts, IsPartedAt}
+use Rattle.jx_plan.specs.Groups.{HasFewEntries, HasFewParts, IsPartedAt}
 use Rattle.jx_plan.specs.Plan.{headers_with, most_packets}
 use Rattle.jx_options.specs.Wanted.{Wanted}
 
@@ -36,3 +36,5 @@ pub record IsFree (s : Stream) (w : Wanted) (layers : ℕ) : Type 0 where
   pub fits : Fits w.precincts s
   pub few : packet_total (headers_with w layers s) ≤ most_packets
   pub parts : (t : ℕ) → t < tile_number s.siz → HasFewParts w.marks.parts (headers_with w layers s) t
+  -- choice 10
+  pub index : HasFewEntries w.marks (headers_with w layers s)

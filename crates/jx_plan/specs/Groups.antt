@@ -1,10 +1,12 @@
 -- Where a tile is cut into tile-parts: a new one begins where two packets that follow each other differ in the resolution, layer or
 -- component that is asked. A tile without packets has one empty tile-part (ITU-T T.800, A.4.2 and B.12).
-use Rattle.std.specs.Prelude.{◌<◌, ◌≤◌, ◌==◌, ℕ, List, [], ◌∷◌, length, if◌then◌else◌}
+use Rattle.std.specs.Prelude.{◌≡◌, ◌<◌, ◌≤◌, ◌==◌, ℕ, true, List, [], ◌∷◌, length, if◌then◌else◌}
+use Rattle.jx_base.specs.Joined.{sum_below}
 use Rattle.jx_progression.specs.declared.names.PacketName.{PacketName}
 use Rattle.jx_codestream.specs.declared.Stream.{Stream}
 use Rattle.jx_codestream.specs.First.{tile_number}
 use Rattle.jx_tile.specs.Covered.{IsListOf}
+use Rattle.jx_options.specs.declared.Marks.{Marks}
 use Rattle.jx_options.specs.declared.PartChoice.{PartChoice}
 use Rattle.jx_options.specs.declared.PartChoice.TheVariants as part
 
@@ -54,3 +56,16 @@ pub record IsPartedAt (parts : PartChoice) (s : Stream) (place : ℕ) : Type 0 w
   pub inside : place < tile_number s.siz
   pub many : HasManyParts parts s place
   pub lowest : (t : ℕ) → t < place → HasFewParts parts s t
+
+-- A.7.1: Ztlm has one byte, and a TLM segment has room for 10,921 tile-parts
+abbrev pub most_indexed : ℕ
+most_indexed = 2795776
+
+-- how many tile-parts there are, where the packets of each tile are these
+abbrev pub parts_total : PartChoice → ℕ → (ℕ → List PacketName) → ℕ
+parts_total parts tiles names = sum_below (λ (t : ℕ). length (groups_of parts (names t))) tiles
+
+-- where the index is asked, it has room for the tile-parts of all tiles
+abbrev pub HasFewEntries : Marks → Stream → Type 0
+HasFewEntries m s = m.tlm ≡ true → (names : ℕ → List PacketName) → ((t : ℕ) → t < tile_number s.siz → IsListOf s t (names t))
+    → parts_total m.parts (tile_number s.siz) names ≤ most_indexed

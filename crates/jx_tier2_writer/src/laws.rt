@@ -4,6 +4,7 @@
 ghost use Rattle.std.specs.Prelude.{◌≡◌, ◌<◌, ◌≤◌, ◌^◌, ℕ, List, None, false, length};
 ghost use Rattle.std.specs.List.{All, flat_map};
 ghost use Rattle.jx_base.specs.declared.pieces.Block.{Block};
+ghost use Rattle.jx_base.specs.Joined.{joined};
 ghost use Rattle.jx_base.specs.Sound.{IsSound};
 ghost use Rattle.jx_geom.specs.Geometry.{GeometryInRange};
 ghost use Rattle.jx_marker.specs.Ranges.{InRange};
@@ -21,6 +22,7 @@ ghost use Rattle.jx_tile.specs.Covered.{IsListOf, IsWhole};
 ghost use Rattle.jx_tier2_reader.specs.Gathered.{IsGathered};
 ghost use Rattle.jx_tile.specs.Totals.{totals_fault};
 ghost use Rattle.jx_tier2_reader.specs.WellFormed.{IsWellFormed};
+ghost use Rattle.jx_tier2_writer.specs.Index.{index_of};
 ghost use Rattle.jx_tier2_writer.specs.Kept.{IsKeptIn};
 ghost use Rattle.jx_tier2_writer.specs.Lengths.{length_bytes, length_segments};
 ghost use Rattle.jx_tier2_writer.specs.Ready.{AllShort, AreReady, HasList, stream_read};
@@ -48,23 +50,23 @@ use jx_plan::laws::{
 /// rule from 1 to 24 is violated, and neither limit 3 nor 4 is passed (T.800, A.2 to A.6).
 pub fn output_is_spelled()
     ensures { (m : Marks) (s : Stream) (blocks : List Block) (b : List ℕ) (out : IsOutput m s blocks b) → AreReady m s
-        → AllShort out.parts (tile_number s.siz) → IsRead b (stream_read s out.parts) }
+        → AllShort out.parts (tile_number s.siz) → IsRead b (stream_read m s out.parts) }
 {}
 
 /// This stream says what the headers say that the file was written from: each tile's header has PLT segments behind it at most, so
 /// all parameters, steps, planes, places and entries are the same.
 pub fn output_has_headers()
     ensures { (m : Marks) (s : Stream) (blocks : List Block) (b : List ℕ) (out : IsOutput m s blocks b) → AreReady m s
-        → AllShort out.parts (tile_number s.siz) → HasHeadersOf s (stream_read s out.parts) }
+        → AllShort out.parts (tile_number s.siz) → HasHeadersOf (index_of m (joined out.parts 0 (tile_number s.siz))) s (stream_read m s out.parts) }
 {}
 
 /// Its code-blocks are just those that it was written from, and it is well-formed: no rule from 25 to 31 is violated; nor is limit 5
 /// or 6 passed.
 pub fn output_is_gathered()
     ensures blocks { (m : Marks) (s : Stream) (blocks : List Block) (b : List ℕ) (out : IsOutput m s blocks b) → AreReady m s
-        → AllShort out.parts (tile_number s.siz) → AreBlocksOf s blocks → All IsSound blocks → IsGathered b (stream_read s out.parts) blocks }
+        → AllShort out.parts (tile_number s.siz) → AreBlocksOf s blocks → All IsSound blocks → IsGathered b (stream_read m s out.parts) blocks }
     ensures accepted { (m : Marks) (s : Stream) (blocks : List Block) (b : List ℕ) (out : IsOutput m s blocks b) → AreReady m s
-        → AllShort out.parts (tile_number s.siz) → AreBlocksOf s blocks → All IsSound blocks → IsAccepted b (stream_read s out.parts) }
+        → AllShort out.parts (tile_number s.siz) → AreBlocksOf s blocks → All IsSound blocks → IsAccepted b (stream_read m s out.parts) }
     ensures formed { (m : Marks) (s : Stream) (blocks : List Block) (b : List ℕ) (out : IsOutput m s blocks b) → AreReady m s
         → AllShort out.parts (tile_number s.siz) → AreBlocksOf s blocks → All IsSound blocks → IsWellFormed b }
 {}
@@ -74,7 +76,7 @@ pub fn output_is_gathered()
 pub fn output_keeps_blocks()
     ensures { (m : Marks) (s input : Stream) (blocks : List Block) (a b : List ℕ) (out : IsOutput m s blocks b) → IsRead a input → length a ≤ 2 ^ 28 → totals_fault input ≡ None
         → IsGathered a input blocks → HaveSameBlocks input s → AreReady m s → AllShort out.parts (tile_number s.siz)
-        → IsGathered b (stream_read s out.parts) blocks }
+        → IsGathered b (stream_read m s out.parts) blocks }
 {}
 
 /// A written file keeps to more than a reader asks for: each tile-part tells its tile's number of tile-parts, SOP and EPH stand with
@@ -82,7 +84,7 @@ pub fn output_keeps_blocks()
 /// the file.
 pub fn output_is_strict()
     ensures { (m : Marks) (s : Stream) (blocks : List Block) (b : List ℕ) (out : IsOutput m s blocks b) → AreReady m s
-        → AllShort out.parts (tile_number s.siz) → AreBlocksOf s blocks → All IsSound blocks → IsStrict m.plt b (stream_read s out.parts) }
+        → AllShort out.parts (tile_number s.siz) → AreBlocksOf s blocks → All IsSound blocks → IsStrict m b (stream_read m s out.parts) }
 {}
 
 /// Headers that a file may be written from are within the ranges that geometry and packets ask for; each of their tiles has an entry
