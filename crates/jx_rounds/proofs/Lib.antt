@@ -2,6 +2,8 @@ mod EntryLemmas
 mod ExtentLemmas
 pub mod FileLemmas
 pub mod FrontLemmas
+pub mod IndexLemmas
+mod MeasureLemmas
 mod PackedLemmas
 mod PartLemmas
 pub mod TakenLemmas

@@ -7,6 +7,7 @@ mod buffer;
 mod crew;
 mod file_writer;
 mod halt;
+mod head;
 mod lengths;
 mod making;
 mod measure;
@@ -19,8 +20,9 @@ mod write;
 mod writer;
 
 pub use buffer::ENOUGH;
-pub use crew::Crew;
+pub use crew::{Crew, is_anew};
 pub use halt::{Halt, halt_of};
+pub use head::indexed_head;
 pub use making::Making;
 pub use measure::{Held, held_parts, measured_parts};
 pub use memory_writer::MemoryWriter;

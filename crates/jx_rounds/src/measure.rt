@@ -1,6 +1,6 @@
 //! How long the tile-parts of a file are, found before it is begun.
 
-ghost use Rattle.std.specs.Prelude.{◌≡◌, [], length, IfErr, IfOk, OnOk};
+ghost use Rattle.std.specs.Prelude.{◌≡◌, ℕ, List, [], Some, length, IfErr, IfOk, OnOk};
 ghost use Rattle.jx_options.specs.Work.{MayBeWork};
 ghost use Rattle.jx_rounds.specs.Heads.{AreMeasured, IsHeld, IsUnmeasured};
 ghost use Rattle.jx_rounds.specs.Rounds.{IsTapedTo};
@@ -14,6 +14,7 @@ use crate::lengths::Lengths;
 use crate::making::Making;
 use crate::memory_writer::MemoryWriter;
 use crate::write::write_tiles;
+use crate::writer::ByteWriter;
 use jx_io::Gate;
 use jx_tier2_writer::PartLength;
 use std::alloc::Global;
