@@ -15,8 +15,10 @@ use Rattle.jx_options.specs.declared.FormChoice.{FormChoice}
 use Rattle.jx_options.specs.declared.FormChoice.TheVariants as form
 use Rattle.jx_options.specs.declared.PartChoice.{PartChoice}
 use Rattle.jx_options.specs.declared.PartChoice.TheVariants as parts
+use Rattle.jx_options.specs.declared.RsizChoice.{RsizChoice}
+use Rattle.jx_options.specs.declared.RsizChoice.TheVariants as rsiz
 use Rattle.jx_cli.specs.Command.{transcode, with_flag, with_option, with_place}
-use Rattle.jx_options.specs.Names.{form_said, parts_said, reduce_said}
+use Rattle.jx_options.specs.Names.{form_said, parts_said, reduce_said, rsiz_said}
 use Rattle.jx_options.specs.Values.{ArePrecincts, precincts_in, precincts_said, precincts_text, style_said, style_text, value_in, whole_choices}
 use Rattle.jx_cli.specs.Words.{Asks, Given, MayBeAsked, Request, Text, are_values, given_by, given_in, is_good, request_of, wanted_by, work_by}
 use Rattle.jx_options.specs.Work.{MayBeWork, Work}
@@ -33,36 +35,52 @@ flag_words true flag words = flag ∷ words
 flag_words false flag words = words
 
 -- the words from the command's name on
-abbrev made_words : Given → Bool → Bool → Bool → List Text
-made_words g sop eph plt =
+abbrev made_words : Given → Bool → Bool → Bool → Bool → List Text
+made_words g sop eph plt tlm =
     codes "transcode" ∷ (codes "--order=" ++ g.order) ∷ (codes "--precincts=" ++ g.precincts) ∷ (codes "--layers=" ++ g.layers) ∷ (codes "--style=" ++ g.style) ∷ (codes "--tile-parts=" ++ g.parts)
-    ∷ (codes "--form=" ++ g.form) ∷ (codes "--reduce=" ++ g.reduce) ∷ (codes "--threads=" ++ g.threads) ∷ (codes "--window=" ++ g.window) ∷ (codes "--window-bytes=" ++ g.window_bytes)
-    ∷ flag_words sop (codes "--sop") (flag_words eph (codes "--eph") (flag_words plt (codes "--plt") (codes "--" ∷ g.from ∷ g.to ∷ [])))
+    ∷ (codes "--rsiz=" ++ g.rsiz) ∷ (codes "--form=" ++ g.form) ∷ (codes "--reduce=" ++ g.reduce) ∷ (codes "--threads=" ++ g.threads) ∷ (codes "--window=" ++ g.window) ∷ (codes "--window-bytes=" ++ g.window_bytes)
+    ∷ flag_words sop (codes "--sop") (flag_words eph (codes "--eph") (flag_words plt (codes "--plt") (flag_words tlm (codes "--tlm") (codes "--" ∷ g.from ∷ g.to ∷ []))))
 
-abbrev made_given : Given → Bool → Bool → Bool → Given
-made_given g sop eph plt = record g { sop = sop; eph = eph; plt = plt }
+abbrev made_given : Given → Bool → Bool → Bool → Bool → Given
+made_given g sop eph plt tlm = record g { sop = sop; eph = eph; plt = plt; tlm = tlm }
 
-made_taken : (g : Given) (sop eph plt : Bool) → fault_of transcode (made_words g sop eph plt) ≡ []
+made_taken : (g : Given) (sop eph plt tlm : Bool) → fault_of transcode (made_words g sop eph plt tlm) ≡ []
 unfolding clap_on_literals transcode with_flag with_option with_place
-made_taken g true true true = refl
-made_taken g true true false = refl
-made_taken g true false true = refl
-made_taken g true false false = refl
-made_taken g false true true = refl
-made_taken g false true false = refl
-made_taken g false false true = refl
-made_taken g false false false = refl
+made_taken g true true true true = refl
+made_taken g true true true false = refl
+made_taken g true true false true = refl
+made_taken g true true false false = refl
+made_taken g true false true true = refl
+made_taken g true false true false = refl
+made_taken g true false false true = refl
+made_taken g true false false false = refl
+made_taken g false true true true = refl
+made_taken g false true true false = refl
+made_taken g false true false true = refl
+made_taken g false true false false = refl
+made_taken g false false true true = refl
+made_taken g false false true false = refl
+made_taken g false false false true = refl
+made_taken g false false false false = refl
 
-made_found : (g : Given) (sop eph plt : Bool) → given_in (made_words g sop eph plt) ≡ made_given g sop eph plt
+made_found : (g : Given) (sop eph plt tlm : Bool) → given_in (made_words g sop eph plt tlm) ≡ made_given g sop eph plt tlm
 unfolding clap_on_literals transcode with_flag with_option with_place given_by
-made_found g true true true = refl
-made_found g true true false = refl
-made_found g true false true = refl
-made_found g true false false = refl
-made_found g false true true = refl
-made_found g false true false = refl
-made_found g false false true = refl
-made_found g false false false = refl
+made_found g true true true true = refl
+made_found g true true true false = refl
+made_found g true true false true = refl
+made_found g true true false false = refl
+made_found g true false true true = refl
+made_found g true false true false = refl
+made_found g true false false true = refl
+made_found g true false false false = refl
+made_found g false true true true = refl
+made_found g false true true false = refl
+made_found g false true false true = refl
+made_found g false true false false = refl
+made_found g false false true true = refl
+made_found g false false true false = refl
+made_found g false false false true = refl
+made_found g false false false false = refl
 
 -- ---- the words of values
 abbrev parts_word : PartChoice → Text
@@ -76,6 +94,14 @@ parts_back parts.None = refl
 parts_back parts.Resolution = refl
 parts_back parts.Layer = refl
 parts_back parts.Component = refl
+
+abbrev rsiz_word : RsizChoice → Text
+rsiz_word rsiz.Zero = codes "zero"
+rsiz_word rsiz.Keep = codes "keep"
+
+rsiz_back : (choice : RsizChoice) → rsiz_said (rsiz_word choice) ≡ Some choice
+rsiz_back rsiz.Zero = refl
+rsiz_back rsiz.Keep = refl
 
 abbrev form_word : FormChoice → Text
 form_word form.Keep = codes "keep"
@@ -145,6 +171,8 @@ given_for r = record {
   sop = r.wanted.marks.sop;
   eph = r.wanted.marks.eph;
   plt = r.wanted.marks.plt;
+  tlm = r.wanted.marks.tlm;
+  rsiz = rsiz_word r.wanted.rsiz;
   form = form_word r.form;
   reduce = decimal r.reduce;
   threads = decimal r.work.threads;
@@ -153,10 +181,10 @@ given_for r = record {
 }
 
 abbrev words_for : Request → List Text
-words_for r = made_words (given_for r) r.wanted.marks.sop r.wanted.marks.eph r.wanted.marks.plt
+words_for r = made_words (given_for r) r.wanted.marks.sop r.wanted.marks.eph r.wanted.marks.plt r.wanted.marks.tlm
 
 found_for : (r : Request) → given_in (words_for r) ≡ given_for r
-found_for r = made_found (given_for r) r.wanted.marks.sop r.wanted.marks.eph r.wanted.marks.plt
+found_for r = made_found (given_for r) r.wanted.marks.sop r.wanted.marks.eph r.wanted.marks.plt r.wanted.marks.tlm
 
 threads_back : (w : Work) → MayBeWork w → number_in 64 (decimal w.threads) ≡ Some w.threads
 threads_back w may = number_spelled 64 w.threads (omega arith) may.some_threads may.few_threads
@@ -188,12 +216,12 @@ reduce_back n few = elim (cases_lt 0 n) [
 values_good : (r : Request) → MayBeAsked r → are_values (given_for r) ≡ true
 unfolding are_values
 values_good r may =
-    rw (order_back r.wanted.order may.order, precincts_back r.wanted.precincts may.precincts, parts_back r.wanted.marks.parts, style_back r.wanted.style may.style, form_back r.form, reduce_back r.reduce may.reduce, threads_back r.work may.work, window_back r.work may.work, most_back r.work may.work) refl
+    rw (order_back r.wanted.order may.order, precincts_back r.wanted.precincts may.precincts, parts_back r.wanted.marks.parts, style_back r.wanted.style may.style, rsiz_back r.wanted.rsiz, form_back r.form, reduce_back r.reduce may.reduce, threads_back r.work may.work, window_back r.work may.work, most_back r.work may.work) refl
 
 values_made : (r : Request) → MayBeAsked r → wanted_by (given_for r) ≡ r.wanted
 unfolding wanted_by
 values_made r may =
-    rw (order_back r.wanted.order may.order, precincts_back r.wanted.precincts may.precincts, parts_back r.wanted.marks.parts, style_back r.wanted.style may.style) refl
+    rw (order_back r.wanted.order may.order, precincts_back r.wanted.precincts may.precincts, parts_back r.wanted.marks.parts, style_back r.wanted.style may.style, rsiz_back r.wanted.rsiz) refl
 
 work_made : (r : Request) → MayBeAsked r → work_by (given_for r) ≡ r.work
 unfolding work_by
@@ -202,7 +230,7 @@ work_made r may = rw (threads_back r.work may.work, window_back r.work may.work,
 made_good : (r : Request) → MayBeAsked r → is_good ([] ∷ words_for r) ≡ true
 unfolding is_good
 made_good r may =
-    let none : eqb (length (fault_of transcode (words_for r))) 0 ≡ true = rw (made_taken (given_for r) r.wanted.marks.sop r.wanted.marks.eph r.wanted.marks.plt) refl in
+    let none : eqb (length (fault_of transcode (words_for r))) 0 ≡ true = rw (made_taken (given_for r) r.wanted.marks.sop r.wanted.marks.eph r.wanted.marks.plt r.wanted.marks.tlm) refl in
     let values : are_values (given_in (words_for r)) ≡ true = rw (found_for r) (values_good r may) in
     rw (none, values) refl
 

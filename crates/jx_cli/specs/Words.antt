@@ -8,10 +8,11 @@ use Rattle.jx_options.specs.Work.{MayBeWork, Work}
 use Rattle.jx_options.specs.declared.FormChoice.{FormChoice}
 use Rattle.jx_options.specs.declared.FormChoice.TheVariants as form
 use Rattle.jx_options.specs.declared.PartChoice.TheVariants as parts
+use Rattle.jx_options.specs.declared.RsizChoice.TheVariants as rsiz
 use Rattle.jx_cli.specs.Command.{transcode}
 use Rattle.jx_options.specs.declared.names.OptionName.{OptionName}
 use Rattle.jx_options.specs.declared.names.OptionName.TheVariants as option
-use Rattle.jx_options.specs.Names.{bytes_said, form_said, name_of, order_said, parts_said, reduce_said, threads_said, window_said}
+use Rattle.jx_options.specs.Names.{bytes_said, form_said, name_of, order_said, parts_said, reduce_said, rsiz_said, threads_said, window_said}
 use Rattle.jx_options.specs.Values.{ArePrecincts, precincts_said, style_said}
 
 -- the bytes of a word
@@ -40,6 +41,8 @@ pub record Given : Type 0 where
   pub sop : Bool
   pub eph : Bool
   pub plt : Bool
+  pub tlm : Bool
+  pub rsiz : Text
   pub form : Text
   pub reduce : Text
   pub threads : Text
@@ -71,6 +74,8 @@ given_by found = record {
   sop = flag_of found option.Sop;
   eph = flag_of found option.Eph;
   plt = flag_of found option.Plt;
+  tlm = flag_of found option.Tlm;
+  rsiz = said_of found option.Rsiz;
   form = said_of found option.Form;
   reduce = said_of found option.Reduce;
   threads = said_of found option.Threads;
@@ -91,7 +96,7 @@ is_work g = is_some (threads_said g.threads) && (is_some (window_said g.window) 
 
 -- each value is one of its option's
 unfoldable pub are_values : Given → Bool
-are_values g = is_some (order_said g.order) && (is_some (precincts_said g.precincts) && (is_some (parts_said g.parts) && (is_some (style_said g.style) && (is_some (form_said g.form) && (is_some (reduce_said g.reduce) && is_work g)))))
+are_values g = is_some (order_said g.order) && (is_some (precincts_said g.precincts) && (is_some (parts_said g.parts) && (is_some (style_said g.style) && (is_some (rsiz_said g.rsiz) && (is_some (form_said g.form) && (is_some (reduce_said g.reduce) && is_work g))))))
 
 unfoldable pub wanted_by : Given → Wanted
 wanted_by g = record {
@@ -99,7 +104,8 @@ wanted_by g = record {
   precincts = unwrap_or (precincts_said g.precincts) None;
   style = unwrap_or (style_said g.style) None;
   layers = g.layers;
-  marks = record { sop = g.sop; eph = g.eph; plt = g.plt; parts = unwrap_or (parts_said g.parts) parts.None };
+  marks = record { sop = g.sop; eph = g.eph; plt = g.plt; tlm = g.tlm; parts = unwrap_or (parts_said g.parts) parts.None };
+  rsiz = unwrap_or (rsiz_said g.rsiz) rsiz.Zero;
 }
 
 unfoldable pub work_by : Given → Work

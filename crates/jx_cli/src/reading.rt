@@ -14,9 +14,9 @@ use crate::{Request, WordsFault};
 use clap::ArgMatches;
 use jx_base::{NoMemory, Style};
 use jx_options::{
-    FormChoice, Marks, OptionName, Options, OrderChoice, PartChoice, PrecinctChoice, Work,
-    bytes_said, form_said, order_said, parts_said, precincts_said, reduce_said, style_said,
-    threads_said, window_said,
+    FormChoice, Marks, OptionName, Options, OrderChoice, PartChoice, PrecinctChoice, RsizChoice,
+    Work, bytes_said, form_said, order_said, parts_said, precincts_said, reduce_said, rsiz_said,
+    style_said, threads_said, window_said,
 };
 use std::alloc::Global;
 use std::marker::Model;
@@ -34,6 +34,8 @@ struct Given<'a> {
     sop: bool,
     eph: bool,
     plt: bool,
+    tlm: bool,
+    rsiz: &'a str,
     form: &'a str,
     reduce: &'a str,
     threads: &'a str,
@@ -57,6 +59,8 @@ impl<'a> Model for Given<'a> {
       sop = g.sop;
       eph = g.eph;
       plt = g.plt;
+      tlm = g.tlm;
+      rsiz = g.rsiz.now;
       form = g.form.now;
       reduce = g.reduce.now;
       threads = g.threads.now;
@@ -81,6 +85,8 @@ fn given_by<'a>(matches: &ArgMatches<'a>) -> Given<'a>
         sop: flag_of(matches, OptionName::Sop),
         eph: flag_of(matches, OptionName::Eph),
         plt: flag_of(matches, OptionName::Plt),
+        tlm: flag_of(matches, OptionName::Tlm),
+        rsiz: said_of(matches, OptionName::Rsiz),
         form: said_of(matches, OptionName::Form),
         reduce: said_of(matches, OptionName::Reduce),
         threads: said_of(matches, OptionName::Threads),
@@ -129,6 +135,7 @@ fn made(
     precincts: PrecinctChoice,
     parts: PartChoice,
     style: Option<Style>,
+    rsiz: RsizChoice,
     form: FormChoice,
     reduce: u8,
     work: Work,
@@ -141,7 +148,8 @@ fn made(
         precincts = bytes_in precincts;
         style = style;
         layers = given.now.layers;
-        marks = record { sop = given.now.sop; eph = given.now.eph; plt = given.now.plt; parts = parts };
+        marks = record { sop = given.now.sop; eph = given.now.eph; plt = given.now.plt; tlm = given.now.tlm; parts = parts };
+        rsiz = rsiz;
       };
       form = form;
       reduce = reduce;
@@ -160,8 +168,10 @@ fn made(
                 sop: given.sop,
                 eph: given.eph,
                 plt: given.plt,
+                tlm: given.tlm,
                 parts,
             },
+            rsiz,
         },
         form,
         reduce,
@@ -185,6 +195,9 @@ fn request_by(alloc: Global, given: &Given<'_>) -> Result<Request, WordsFault>
     let Some(style) = style_said(given.style) else {
         return Err(WordsFault::Words);
     };
+    let Some(rsiz) = rsiz_said(given.rsiz) else {
+        return Err(WordsFault::Words);
+    };
     let Some(form) = form_said(given.form) else {
         return Err(WordsFault::Words);
     };
@@ -200,7 +213,7 @@ fn request_by(alloc: Global, given: &Given<'_>) -> Result<Request, WordsFault>
         Err(NoMemory) => return Err(WordsFault::NoMemory),
     };
     match made(
-        alloc, given, order, precincts, parts, style, form, reduce, work,
+        alloc, given, order, precincts, parts, style, rsiz, form, reduce, work,
     ) {
         Ok(request) => Ok(request),
         Err(NoMemory) => Err(WordsFault::NoMemory),

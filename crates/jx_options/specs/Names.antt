@@ -7,13 +7,15 @@ use Rattle.jx_options.specs.declared.FormChoice.TheVariants as form
 use Rattle.jx_options.specs.declared.Marks.{Marks}
 use Rattle.jx_options.specs.declared.PartChoice.{PartChoice}
 use Rattle.jx_options.specs.declared.PartChoice.TheVariants as parts
+use Rattle.jx_options.specs.declared.RsizChoice.{RsizChoice}
+use Rattle.jx_options.specs.declared.RsizChoice.TheVariants as rsiz
 use Rattle.jx_options.specs.declared.names.OptionName.{OptionName}
 use Rattle.jx_options.specs.declared.names.OptionName.TheVariants as name
 use Rattle.jx_options.specs.Values.{precincts_said, style_said, value_in}
 
 -- in the order of the help
 abbrev pub all_names : List OptionName
-all_names = name.Order ∷ name.Precincts ∷ name.Layers ∷ name.TileParts ∷ name.Sop ∷ name.Eph ∷ name.Plt ∷ name.Form ∷ name.Style ∷ name.Reduce ∷ name.Threads ∷ name.Window ∷ name.WindowBytes ∷ []
+all_names = name.Order ∷ name.Precincts ∷ name.Layers ∷ name.TileParts ∷ name.Sop ∷ name.Eph ∷ name.Plt ∷ name.Tlm ∷ name.Rsiz ∷ name.Form ∷ name.Style ∷ name.Reduce ∷ name.Threads ∷ name.Window ∷ name.WindowBytes ∷ []
 
 abbrev pub name_of : OptionName → List ℕ
 name_of name.Order = codes "order"
@@ -23,6 +25,8 @@ name_of name.TileParts = codes "tile-parts"
 name_of name.Sop = codes "sop"
 name_of name.Eph = codes "eph"
 name_of name.Plt = codes "plt"
+name_of name.Tlm = codes "tlm"
+name_of name.Rsiz = codes "rsiz"
 name_of name.Form = codes "form"
 name_of name.Style = codes "style"
 name_of name.Reduce = codes "reduce"
@@ -39,6 +43,8 @@ default_of name.TileParts = codes "none"
 default_of name.Sop = codes "false"
 default_of name.Eph = codes "false"
 default_of name.Plt = codes "false"
+default_of name.Tlm = codes "false"
+default_of name.Rsiz = codes "zero"
 default_of name.Form = codes "keep"
 default_of name.Style = codes "keep"
 default_of name.Reduce = codes "0"
@@ -51,6 +57,7 @@ abbrev pub is_flag : OptionName → Bool
 is_flag name.Sop = true
 is_flag name.Eph = true
 is_flag name.Plt = true
+is_flag name.Tlm = true
 is_flag _ = false
 
 -- the progression orders by their numbers (Table A.16); with `keep` each tile keeps its own
@@ -61,6 +68,10 @@ orders = (codes "keep", None) ∷ (codes "lrcp", Some 0) ∷ (codes "rlcp", Some
 abbrev pub part_choices : List (List ℕ × PartChoice)
 part_choices = (codes "none", parts.None) ∷ (codes "r", parts.Resolution) ∷ (codes "l", parts.Layer) ∷ (codes "c", parts.Component) ∷ []
 
+-- what profile is claimed (Rsiz, Table A.10): none, or the input's
+abbrev pub rsiz_choices : List (List ℕ × RsizChoice)
+rsiz_choices = (codes "zero", rsiz.Zero) ∷ (codes "keep", rsiz.Keep) ∷ []
+
 -- what is written of a JP2 file: one again, or the codestream alone (Annex I)
 abbrev pub form_choices : List (List ℕ × FormChoice)
 form_choices = (codes "keep", form.Keep) ∷ (codes "j2k", form.Codestream) ∷ []
@@ -70,6 +81,9 @@ order_said = value_in orders
 
 abbrev pub parts_said : List ℕ → Option PartChoice
 parts_said = value_in part_choices
+
+abbrev pub rsiz_said : List ℕ → Option RsizChoice
+rsiz_said = value_in rsiz_choices
 
 abbrev pub form_said : List ℕ → Option FormChoice
 form_said = value_in form_choices
@@ -95,6 +109,7 @@ bytes_said = number_in 268435456
 abbrev pub listed_of : OptionName → List (List ℕ)
 listed_of name.Order = map (λ p. p.0) orders
 listed_of name.TileParts = map (λ p. p.0) part_choices
+listed_of name.Rsiz = map (λ p. p.0) rsiz_choices
 listed_of name.Form = map (λ p. p.0) form_choices
 listed_of _ = []
 
@@ -104,6 +119,7 @@ is_value name.Order word = is_some (order_said word)
 is_value name.Precincts word = is_some (precincts_said word)
 is_value name.Layers word = true
 is_value name.TileParts word = is_some (parts_said word)
+is_value name.Rsiz word = is_some (rsiz_said word)
 is_value name.Form word = is_some (form_said word)
 is_value name.Style word = is_some (style_said word)
 is_value name.Reduce word = is_some (reduce_said word)
@@ -112,7 +128,7 @@ is_value name.Window word = is_some (window_said word)
 is_value name.WindowBytes word = is_some (bytes_said word)
 is_value _ word = false
 
--- what stands in the tile-parts where no option is among the words
+-- what stands there where no option is among the words
 abbrev pub no_marks : Marks
 no_marks = record { sop = false; eph = false; plt = false; tlm = false; parts = parts.None }
 
@@ -133,6 +149,7 @@ placeholder_of name.Order = codes "ORDER"
 placeholder_of name.Precincts = codes "LIST"
 placeholder_of name.Layers = codes "RULE"
 placeholder_of name.TileParts = codes "BY"
+placeholder_of name.Rsiz = codes "PROFILE"
 placeholder_of name.Form = codes "FORM"
 placeholder_of name.Style = codes "NAMES"
 placeholder_of name.Reduce = codes "D"
@@ -150,6 +167,8 @@ what_of name.TileParts = codes "none, r, l or c: a new tile-part for each\nresol
 what_of name.Sop = codes "an SOP segment before each packet"
 what_of name.Eph = codes "an EPH marker behind each packet header"
 what_of name.Plt = codes "packet lengths in the tile-parts' headers"
+what_of name.Tlm = codes "tile-part lengths in the main header"
+what_of name.Rsiz = codes "zero or keep: no profile is claimed, or that of\nthe input, where the file meets it\ndefault zero; as in --rsiz keep"
 what_of name.Form = codes "keep or j2k: of a JP2 file a JP2 file again, or\nthe codestream alone\ndefault keep; as in --form j2k"
 what_of name.Style = codes "keep, none, or names with + between them:\nbypass, reset, terminate, causal, segment\ndefault keep; as in --style terminate+reset"
 what_of name.Reduce = codes "leave out the D highest resolutions: the picture\nis 2^D times smaller both ways\n0 to 32, default 0; as in --reduce 1"

@@ -4,6 +4,7 @@ use Rattle.jx_base.specs.OrderNumbers.{IsOrderNumber}
 use Rattle.jx_base.specs.declared.style.Style.{Style}
 use Rattle.jx_marker.specs.Ranges.{AreBytes}
 use Rattle.jx_options.specs.declared.Marks.{Marks}
+use Rattle.jx_options.specs.declared.RsizChoice.{RsizChoice}
 
 pub record Wanted : Type 0 where
   -- the progression order of each tile, by its number (Table A.16); none where each tile keeps that of its COD
@@ -15,8 +16,10 @@ pub record Wanted : Type 0 where
   pub style : Option Style
   -- the words for the planners of layers
   pub layers : List ℕ
-  -- what stands in the tile-parts beside headers and blocks, and where they begin
+  -- what stands in the tile-parts beside headers and blocks, where they begin, and whether the main header says so
   pub marks : Marks
+  -- what profile is claimed (Rsiz, Table A.10)
+  pub rsiz : RsizChoice
 
 -- a style has six bits, and predictable termination isn't asked (bit 4)
 pub record MayBeStyle (style : Style) : Type 0 where

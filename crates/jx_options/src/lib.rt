@@ -15,8 +15,8 @@ mod values;
 mod work;
 
 pub use names::{
-    OptionName, bytes_said, form_said, order_said, parts_said, reduce_said, threads_said,
-    window_said,
+    OptionName, bytes_said, form_said, order_said, parts_said, reduce_said, rsiz_said,
+    threads_said, window_said,
 };
 pub use numbers::{long_number_in, number_in};
 pub use options::{Options, OrderChoice, PrecinctChoice};
@@ -45,7 +45,16 @@ pub enum FormChoice {
     Codestream,
 }
 
-/// What stands in the tile-parts of the written file beside headers and code-blocks, and where they begin.
+/// What profile the written file claims (Rsiz; ITU-T T.800, A.5.1, Table A.10).
+#[derive(Clone, Copy, Debug, PartialEq, Eq)]
+pub enum RsizChoice {
+    /// None: Rsiz is 0.
+    Zero,
+    /// The input's, where the written file meets it.
+    Keep,
+}
+
+/// What stands in the tile-parts of the written file beside headers and code-blocks, where they begin, and whether the main header says so.
 #[derive(Clone, Copy, Debug, PartialEq, Eq)]
 pub struct Marks {
     /// Whether an SOP segment stands before each packet (ITU-T T.800, A.8.1).
@@ -54,7 +63,7 @@ pub struct Marks {
     pub eph: bool,
     /// Whether PLT segments give the lengths of the packets (A.7.3).
     pub plt: bool,
-    /// Whether TLM segments give the lengths of the tile-parts (A.7.1).
+    /// Whether TLM segments in the main header give the lengths of the tile-parts (A.7.1).
     pub tlm: bool,
     /// Where a tile is cut into tile-parts (A.4.2).
     pub parts: PartChoice,

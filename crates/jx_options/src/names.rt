@@ -3,12 +3,12 @@
 
 ghost use Rattle.std.specs.Prelude.{◌≡◌, IfOk, map, option_map};
 ghost use Rattle.jx_options.specs.Choices.{order_in};
-ghost use Rattle.jx_options.specs.Names.{all_names, bytes_said, default_of, form_of, form_said, heading_of, is_flag, is_value, listed_of, name_of, order_said, parts_said, placeholder_of, range_of, reduce_said, threads_said, what_of, window_said};
+ghost use Rattle.jx_options.specs.Names.{all_names, bytes_said, default_of, form_of, form_said, heading_of, is_flag, is_value, listed_of, name_of, order_said, parts_said, placeholder_of, range_of, reduce_said, rsiz_said, threads_said, what_of, window_said};
 
 use crate::numbers::number_in;
 use crate::options::OrderChoice;
 use crate::values::{precincts_said, style_said};
-use crate::{FormChoice, PartChoice};
+use crate::{FormChoice, PartChoice, RsizChoice};
 use jx_base::NoMemory;
 use std::alloc::Global;
 
@@ -29,6 +29,10 @@ pub enum OptionName {
     Eph,
     /// PLT segments (A.7.3).
     Plt,
+    /// TLM segments (A.7.1).
+    Tlm,
+    /// What profile the file claims (A.5.1).
+    Rsiz,
     /// What is written of a JP2 file (Annex I).
     Form,
     /// The style of code-blocks (Table A.19).
@@ -100,6 +104,19 @@ pub fn form_said(word: &str) -> Option<FormChoice>
     None
 }
 
+/// What profile a word has the file claim.
+pub fn rsiz_said(word: &str) -> Option<RsizChoice>
+    ensures { result ≡ rsiz_said word.now }
+{
+    if word == "zero" {
+        return Some(RsizChoice::Zero);
+    }
+    if word == "keep" {
+        return Some(RsizChoice::Keep);
+    }
+    None
+}
+
 /// How many of the highest resolutions a word leaves out, 0 to 32.
 pub fn reduce_said(word: &str) -> Option<u8>
     ensures { result ≡ reduce_said word.now }
@@ -147,6 +164,8 @@ impl OptionName {
             OptionName::Sop,
             OptionName::Eph,
             OptionName::Plt,
+            OptionName::Tlm,
+            OptionName::Rsiz,
             OptionName::Form,
             OptionName::Style,
             OptionName::Reduce,
@@ -168,6 +187,8 @@ impl OptionName {
             OptionName::Sop => "sop",
             OptionName::Eph => "eph",
             OptionName::Plt => "plt",
+            OptionName::Tlm => "tlm",
+            OptionName::Rsiz => "rsiz",
             OptionName::Form => "form",
             OptionName::Style => "style",
             OptionName::Reduce => "reduce",
@@ -188,7 +209,8 @@ impl OptionName {
             | OptionName::Form
             | OptionName::Style => "keep",
             OptionName::TileParts => "none",
-            OptionName::Sop | OptionName::Eph | OptionName::Plt => "false",
+            OptionName::Sop | OptionName::Eph | OptionName::Plt | OptionName::Tlm => "false",
+            OptionName::Rsiz => "zero",
             OptionName::Reduce => "0",
             OptionName::Threads => "1",
             OptionName::Window => "64",
@@ -200,7 +222,10 @@ impl OptionName {
     pub fn is_flag(self) -> bool
         ensures { result ≡ is_flag self }
     {
-        matches!(self, OptionName::Sop | OptionName::Eph | OptionName::Plt)
+        matches!(
+            self,
+            OptionName::Sop | OptionName::Eph | OptionName::Plt | OptionName::Tlm
+        )
     }
 
     /// All its values, where these are few words; none where they aren't.
@@ -210,6 +235,7 @@ impl OptionName {
         match self {
             OptionName::Order => &["keep", "lrcp", "rlcp", "rpcl", "pcrl", "cprl"],
             OptionName::TileParts => &["none", "r", "l", "c"],
+            OptionName::Rsiz => &["zero", "keep"],
             OptionName::Form => &["keep", "j2k"],
             _ => &[],
         }
@@ -228,7 +254,8 @@ impl OptionName {
             OptionName::Precincts => precincts_said(alloc, word)?.is_some(),
             OptionName::Layers => true,
             OptionName::TileParts => parts_said(word).is_some(),
-            OptionName::Sop | OptionName::Eph | OptionName::Plt => false,
+            OptionName::Sop | OptionName::Eph | OptionName::Plt | OptionName::Tlm => false,
+            OptionName::Rsiz => rsiz_said(word).is_some(),
             OptionName::Form => form_said(word).is_some(),
             OptionName::Style => style_said(word).is_some(),
             OptionName::Reduce => reduce_said(word).is_some(),
@@ -262,11 +289,12 @@ impl OptionName {
             OptionName::Precincts => "LIST",
             OptionName::Layers => "RULE",
             OptionName::TileParts => "BY",
+            OptionName::Rsiz => "PROFILE",
             OptionName::Form => "FORM",
             OptionName::Style => "NAMES",
             OptionName::Reduce => "D",
             OptionName::Threads | OptionName::Window | OptionName::WindowBytes => "N",
-            OptionName::Sop | OptionName::Eph | OptionName::Plt => "",
+            OptionName::Sop | OptionName::Eph | OptionName::Plt | OptionName::Tlm => "",
         }
     }
 
@@ -290,6 +318,10 @@ impl OptionName {
             OptionName::Sop => "an SOP segment before each packet",
             OptionName::Eph => "an EPH marker behind each packet header",
             OptionName::Plt => "packet lengths in the tile-parts' headers",
+            OptionName::Tlm => "tile-part lengths in the main header",
+            OptionName::Rsiz => {
+                "zero or keep: no profile is claimed, or that of\nthe input, where the file meets it\ndefault zero; as in --rsiz keep"
+            }
             OptionName::Form => {
                 "keep or j2k: of a JP2 file a JP2 file again, or\nthe codestream alone\ndefault keep; as in --form j2k"
             }

@@ -3,7 +3,7 @@
 ghost use Rattle.std.specs.Prelude.{◌≡◌};
 ghost use Rattle.jx_options.specs.Choices.{bytes_in, lent, order_in};
 
-use crate::Marks;
+use crate::{Marks, RsizChoice};
 use jx_base::Style;
 use std::marker::Model;
 
@@ -40,8 +40,10 @@ pub struct Options {
     pub style: Option<Style>,
     /// The words for the planners of layers.
     pub layers: String,
-    /// What stands in the tile-parts beside headers and code-blocks, and where they begin.
+    /// What stands in the tile-parts beside headers and code-blocks, where they begin, and whether the main header says so.
     pub marks: Marks,
+    /// What profile is claimed.
+    pub rsiz: RsizChoice,
 }
 
 impl Model for Options {
@@ -51,7 +53,7 @@ impl Model for Options {
 
     ghost Value = { Wanted };
 
-    ghost view = { λ o. record { order = order_in o.order; precincts = bytes_in o.precincts; style = o.style; layers = string_bytes o.layers; marks = o.marks } };
+    ghost view = { λ o. record { order = order_in o.order; precincts = bytes_in o.precincts; style = o.style; layers = string_bytes o.layers; marks = o.marks; rsiz = o.rsiz } };
 }
 
 impl OrderChoice {

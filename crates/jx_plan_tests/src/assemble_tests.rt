@@ -14,7 +14,7 @@ use jx_base::{Block, NoMemory};
 use jx_codeblock::Recoded;
 use jx_codestream::{MainView, Stream};
 use jx_layers::LayerPlanner;
-use jx_options::{Marks, Options, OrderChoice, PartChoice, PrecinctChoice};
+use jx_options::{Marks, Options, OrderChoice, PartChoice, PrecinctChoice, RsizChoice};
 use jx_plan::{OutStream, plan};
 use jx_store::Entry;
 use jx_tier2_writer::{AssembleFault, TileOut, assemble_tile, main_header, main_view, pack_tile};
@@ -255,6 +255,7 @@ fn with_marks(alloc: Global, asked: Asked) -> Result<Options, AllocError>
         style: None,
         layers,
         marks,
+        rsiz: RsizChoice::Zero,
     })
 }
 

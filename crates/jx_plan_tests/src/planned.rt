@@ -13,7 +13,7 @@ use jx_base::{Block, NoMemory, Style};
 use jx_codeblock::Job;
 use jx_codestream::{Stream, Tile, read_stream};
 use jx_layers::{CutLayers, KeepLayers, LayerPlanner, OneLayer, TableLayers};
-use jx_options::{Marks, Options, OrderChoice, PrecinctChoice};
+use jx_options::{Marks, Options, OrderChoice, PrecinctChoice, RsizChoice};
 use jx_plan::{OutStream, PlanFault, first_misfit, plan, plan_served};
 use jx_tier2_reader::gather;
 use std::alloc::{AllocError, Global};
@@ -107,6 +107,7 @@ fn options_of(alloc: Global, ask: &Ask) -> Result<Options, AllocError>
         style: style_of(ask.style),
         layers,
         marks: Marks::none(),
+        rsiz: RsizChoice::Zero,
     })
 }
 

@@ -6,6 +6,7 @@ use Rattle.jx_codestream.specs.declared.Stream.{Stream}
 use Rattle.jx_jp2.specs.declared.Boxed.{Boxed}
 use Rattle.jx_jp2.specs.Codestream.{content}
 use Rattle.jx_options.specs.Names.{no_marks}
+use Rattle.jx_options.specs.declared.RsizChoice.TheVariants as rsiz
 use Rattle.jx_plan.specs.Meaning.{meaning_of}
 use Rattle.jx_same.specs.Items.{answer_of}
 use Rattle.jx_same.specs.declared.answer.Answer.{Answer}
@@ -28,7 +29,7 @@ HasOneFile = (aim : Aim) (input : List ℕ) (s t : Status) → FileVerdict aim i
 
 -- a rule or a limit stands in the verdict of any aim
 abbrev pub any_aim : Aim
-any_aim = record { wanted = record { order = None; precincts = None; style = None; layers = []; marks = no_marks }; reduce = 0; rule = λ facts. None }
+any_aim = record { wanted = record { order = None; precincts = None; style = None; layers = []; marks = no_marks; rsiz = rsiz.Zero }; reduce = 0; rule = λ facts. None }
 
 pub inner_short : (input inner : List ℕ) (from : ℕ) → HasCodestream input from inner → length input ≤ most_bytes → length inner ≤ most_bytes
 inner_short input inner from (inl bare) short = rw bare.2 short

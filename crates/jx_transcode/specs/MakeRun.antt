@@ -10,6 +10,7 @@ use Rattle.jx_generate.specs.Made.{file_made}
 use Rattle.jx_options.specs.Names.{no_marks}
 use Rattle.jx_options.specs.Wanted.{Wanted}
 use Rattle.jx_options.specs.declared.PartChoice.TheVariants as parts
+use Rattle.jx_options.specs.declared.RsizChoice.TheVariants as rsiz
 use Rattle.jx_cli.specs.MakeWords.{Make}
 use Rattle.jx_options.specs.Work.{Work}
 use Rattle.jx_transcode.specs.Aims.{Aim}
@@ -28,6 +29,7 @@ wanted_made = record {
   style = Some (record { bits = 33 });
   layers = codes "one";
   marks = record no_marks { plt = true; parts = parts.Resolution };
+  rsiz = rsiz.Zero;
 }
 
 -- and `--threads 4 --window 64`

@@ -17,7 +17,7 @@ use jx_base::Style;
 use jx_cli::Make;
 use jx_io::{Files, Gate, Sink, SureFiles};
 use jx_layers::LayerPlanner;
-use jx_options::{Marks, Options, OrderChoice, PartChoice, PrecinctChoice, Work};
+use jx_options::{Marks, Options, OrderChoice, PartChoice, PrecinctChoice, RsizChoice, Work};
 use jx_rounds::{Crew, TapeEntry};
 use std::alloc::{AllocError, Global};
 use std::sync::Wait;
@@ -59,6 +59,7 @@ fn options(alloc: Global) -> Result<Options, AllocError>
             parts: PartChoice::Resolution,
             ..Marks::none()
         },
+        rsiz: RsizChoice::Zero,
     })
 }
 
