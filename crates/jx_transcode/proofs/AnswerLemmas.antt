@@ -2,11 +2,14 @@
 use Rattle.std.proofs.Common.{◌≡◌, ◌∙◌, ◌⊎◌, ◌<◌, ◌≤◌, ◌^◌, ℕ, false, List, [], ◌++◌, length, map, Option, None, Some, Result, Ok, Err, IfOk, IfErr, OnOk, refl, ap, sym, subst, arith, inl, inr, append_assoc, append-nil}
 use Rattle.std.specs.List.{All, flat_map}
 use Rattle.std.proofs.lemmas.Bool.{cases_lt}
+use Rattle.std.proofs.lemmas.Grind.{flat_map-append}
 use Rattle.jx_base.specs.declared.pieces.Block.{Block}
 use Rattle.jx_base.specs.Joined.{joined}
+use Rattle.jx_base.proofs.Joined.{joined_same}
 use Rattle.jx_codeblock.specs.declared.job.Job.{Job}
 use Rattle.jx_codeblock.specs.Written.{block_asked, is_wrong}
 use Rattle.jx_marker.specs.Segments.{spelling}
+use Rattle.jx_marker.specs.declared.Segment.{Segment}
 use Rattle.jx_marker.specs.declared.Segment.TheVariants as segment
 use Rattle.jx_io.specs.Device.{Meaning}
 use Rattle.jx_codestream.specs.declared.Stream.{Stream}
@@ -24,27 +27,34 @@ use Rattle.jx_reduce.specs.Left.{IsLeft}
 use Rattle.jx_reduce.specs.Reduction.{blocks_left, stream_left}
 use Rattle.jx_reduce.specs.Unreducible.{first_choice}
 use Rattle.jx_options.specs.Wanted.{MayBeWanted, Wanted}
+use Rattle.jx_tier2_writer.specs.Index.{entry_of, index_of, index_segments}
 use Rattle.jx_tier2_writer.specs.Kept.{IsKeptIn}
 use Rattle.jx_tier2_writer.specs.Ready.{AllShort, AreShort}
 use Rattle.jx_tier2_writer.specs.Tile.{IsTooLong, blocks_in, main_bytes}
 use Rattle.jx_tier2_writer.specs.TileParts.{AreTilePartsOf, IsOutput}
+use Rattle.jx_tier2_writer.specs.declared.index.PartLength.{PartLength}
 use Rattle.jx_transcode.specs.Aims.{Aim, rule_in}
-use Rattle.jx_transcode.specs.Filed.{IsAnswered, IsFileBegun, IsFileHalted, IsFileMade, IsFileStopped, IsEndOf, status_of}
-use Rattle.jx_transcode.specs.Outcome.{IsCutShort, IsStopped, IsUnfinished, IsVerdict, Leaves, most_bytes}
-use Rattle.jx_transcode.specs.Rewritten.{CanBePlanned, HasBlocks, IsBad, IsCut, IsCutByBlock, IsFront, IsFrontOf, IsKept, IsLong, IsRewritten, IsSpoiled, ReadsLeft, headers_of}
-use Rattle.jx_rounds.specs.Tiles.{IsRight, Round, round_of}
+use Rattle.jx_transcode.specs.Filed.{IsAnswered, IsFileBegun, IsFileCut, IsFileHalted, IsFileMade, IsFileSpoiled, IsEndOf, status_of}
+use Rattle.jx_transcode.specs.Outcome.{IsCutShort, IsStopped, IsUnbegun, IsUnfinished, IsVerdict, Leaves, LeavesBegun, most_bytes}
+use Rattle.jx_transcode.specs.Rewritten.{CanBePlanned, HasBlocks, IsBad, IsFront, IsFrontOf, IsKept, IsLong, IsRewritten, IsSpoiled, ReadsLeft, headers_of}
+use Rattle.jx_rounds.specs.Tiles.{IsRight, IsWrongAt, Round, round_of}
 use Rattle.jx_transcode.specs.Rewritten.{IsTooLongAt}
-use Rattle.jx_rounds.specs.Rounds.{EndWithRound, IsHaltedAt, IsRoundFront, IsShortFront, IsTapedTo, IsWholeFile, most_of_part}
+use Rattle.jx_rounds.specs.Heads.{IsHead, IsIndexed}
+use Rattle.jx_rounds.specs.Rounds.{EndWithRound, IsHaltedAt, IsRoundFront, IsShortFront, IsSpoiledBy, IsSpoiledTile, IsTapedTo, IsWholeFile, most_of_part}
+use Rattle.jx_rounds.specs.Sent.{PartSent, bytes_sent, sent_of}
 use Rattle.jx_rounds.specs.declared.halt.Halt.{Halt}
 use Rattle.jx_rounds.specs.declared.halt.Halt.TheVariants as halt
 use Rattle.jx_transcode.specs.declared.status.Status.{Status}
 use Rattle.jx_transcode.specs.declared.status.Status.TheVariants as status
 use Rattle.jx_cli.specs.Words.{Text}
 use Rattle.jx_options.specs.Work.{Work}
-use Rattle.jx_rounds.proofs.FrontLemmas.{at_most_short, comps_stay, tiles_stay}
+use Rattle.jx_rounds.proofs.FrontLemmas.{at_most_short, comps_stay, sent_by, tiles_stay}
+use Rattle.jx_rounds.proofs.IndexLemmas.{front_bytes, front_lengths}
+use Rattle.jx_rounds.proofs.SentLemmas.{both_sent}
 use Rattle.jx_rounds.specs.Tapes.{IsTapeOf}
 use Rattle.jx_rounds.specs.declared.tape.TapeEntry.{TapeEntry}
 use Rattle.jx_transcode.specs.RunTapes.{IsRunTape, IsTapedAfter, IsTapedInPart}
+use Rattle.jx_transcode.proofs.CutLemmas.{front_then, joined_front, longer_unfinished}
 use Rattle.jx_transcode.proofs.TapeLemmas.{in_rounds, start_below, start_grows}
 use Rattle.jx_transcode.proofs.WrongLemmas.{all_right, right_or_wrong}
 
