@@ -12,17 +12,18 @@ use Rattle.jx_progression.specs.declared.names.PacketName.{PacketName}
 use Rattle.jx_codestream.specs.declared.Stream.{Stream}
 use Rattle.jx_codestream.specs.First.{tile_number}
 use Rattle.jx_codestream.specs.Params.{header_of}
-use Rattle.jx_codestream.specs.Spells.{TilePart, part_bytes}
+use Rattle.jx_codestream.specs.Spells.{TilePart, all_bytes, part_bytes}
 use Rattle.jx_options.specs.declared.Marks.{Marks}
 use Rattle.jx_plan.specs.Groups.{HasFewEntries, groups_of, parts_total}
 use Rattle.jx_plan.specs.Plan.{Plan, headers_of}
 use Rattle.jx_tile.specs.Covered.{IsListOf}
 use Rattle.jx_tier2_reader.specs.Written.{Packets, bytes_from}
-use Rattle.jx_tier2_writer.specs.Index.{entry_of}
+use Rattle.jx_tier2_writer.specs.Index.{entry_of, index_segments}
+use Rattle.jx_tier2_writer.specs.Tile.{main_bytes}
 use Rattle.jx_tier2_writer.specs.TileParts.{AreTilePartsOf, packet_length, packets_of, parts_with, tile_part, written_part_header}
 use Rattle.jx_tier2_writer.specs.declared.index.PartLength.{PartLength}
 use Rattle.jx_tier2_writer.proofs.MadeLemmas.{made_long, part_long}
-use Rattle.jx_rounds.specs.Heads.{AreMeasured}
+use Rattle.jx_rounds.specs.Heads.{AreMeasured, IsHead}
 use Rattle.jx_rounds.specs.Rounds.{IsShortFront, blocks_of}
 use Rattle.jx_rounds.specs.Sent.{PartSent, bytes_sent, length_sent, lengths_sent, sent_as, sent_of}
 use Rattle.jx_rounds.proofs.FrontLemmas.{comps_stay, sent_by, tiles_stay}
@@ -120,3 +121,11 @@ measured_few p lengths few asked is =
     let below : parts_total p.wanted.marks.parts n (names_of p n is.sent is.front) ≤ 2795776 =
     subst (λ (tiles : ℕ). parts_total p.wanted.marks.parts tiles (names_of p n is.sent is.front) ≤ 2795776) same at_most in
     omega (arith, below, front_counted p n is.sent is.front, ap (λ (l : List PartLength). length l) is.lengths_are, length-map is.sent length_sent)
+
+pub head_indexed : (p : Plan) (lengths : List PartLength) (header index head : List ℕ) → p.wanted.marks.tlm ≡ true → AreMeasured p lengths → header ≡ main_bytes (headers_of p)
+    → ((comps : ℕ) → index ≡ all_bytes comps (index_segments lengths)) → head ≡ header ++ index → IsHead p head
+head_indexed p lengths header index head asked are main is all = inr (asked, record {
+  lengths = lengths;
+  are = are;
+  head_is = all ∙ ap (λ (b : List ℕ). b ++ index) main ∙ ap (λ (b : List ℕ). main_bytes (headers_of p) ++ b) (is (length p.stream.siz.comps));
+})

@@ -1,5 +1,5 @@
 -- What has been written of a file, step by step.
-use Rattle.std.proofs.Common.{◌≡◌, ◌<◌, ◌≤◌, ◌+◌, ℕ, List, Option, [], ◌∷◌, ◌++◌, length, refl, ap, sym, subst, arith, inl, inr, append_assoc, append-nil, length-append, Ok, Err, IsErrOf}
+use Rattle.std.proofs.Common.{◌≡◌, ◌<◌, ◌≤◌, ◌+◌, ℕ, List, Option, [], ◌∷◌, ◌++◌, length, refl, ap, sym, subst, arith, inl, inr, append_assoc, append-nil, length-append, Result, Ok, Err, IfErr, OnErr, IsErrOf}
 use Rattle.std.specs.List.{concat}
 use Rattle.std.proofs.lemmas.Bool.{cases_lt}
 use Rattle.jx_marker.specs.Codes.{EOC}
@@ -269,3 +269,7 @@ refused_rose before now h refused.NoMemory is cause rose = let e = cause.rose ro
 
 pub same_err : {T U : Type 0} (h k : Halt) → IsErrOf {T = T} (Err h) k → IsErrOf {T = U} (Err h) k
 same_err h k e = let is : h ≡ k = cc in ap (λ (x : Halt). Err x) is
+
+pub on_fault : {T : Type 0} (r : Result T Halt) (P : Halt → Type 0) (X : Type 0) → IfErr r P → IfErr r (λ h. IsFault h) → ((h : Halt) → P h → IsFault h → X) → OnErr r X
+on_fault (Ok x) P X is fault then_x = tt
+on_fault (Err h) P X is fault then_x = then_x h is fault

@@ -185,6 +185,7 @@ pub fn write_tiles<R: Threads + Wait + Sync, G: Gate + Sync, W: ByteWriter>(
     ensures tape { IsTapeOf crew.now.work making.now.blocks tape.new.items }
     ensures whole { OnOk result (length tape.new.items ≡ length making.now.blocks) }
     ensures last { OnOk result (IsPlace making.now (tile_number making.now.stream.siz) (length tape.new.items)) }
+    ensures buffer { OnOk result (buffer.new.items ≡ []) }
     ensures taped { IfErr result (λ h. IsTapedTo making.now h (length tape.new.items)) }
     ensures cause { IsErrOf result Halt.Failed → Rose (W.faults writer.old) (W.faults writer.new) }
     ensures rose { W.faults writer.old < W.faults writer.new → IsErrOf result Halt.Failed }
