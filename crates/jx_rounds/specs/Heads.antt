@@ -1,5 +1,5 @@
 -- What stands before the first tile-part, and what was found out for it: how long all tile-parts are (T.800, A.7.1).
-use Rattle.std.specs.Prelude.{◌≡◌, ◌×◌, ◌⊎◌, ℕ, true, false, List, ◌++◌, length}
+use Rattle.std.specs.Prelude.{◌≡◌, ◌⊎◌, ℕ, true, false, List, ◌++◌, length}
 use Rattle.jx_codestream.specs.First.{tile_number}
 use Rattle.jx_codestream.specs.Spells.{all_bytes}
 use Rattle.jx_plan.specs.Plan.{Plan, headers_of}
