@@ -6,6 +6,7 @@ mod TurnLemmas
 mod PlaceLemmas
 mod MadeLemmas
 mod SameLemmas
+mod IndexLemmas
 mod CoverLemmas
 mod ReadyLemmas
 mod ReadLemmas
