@@ -4,6 +4,8 @@ use Rattle.std.specs.List.{All, AllByRecursion, filter, flat_map, list_any, rang
 use Rattle.std.proofs.lemmas.Bool.{cases_Bool}
 use Rattle.std.proofs.lemmas.Bool.Decides.{nat_tests}
 use Rattle.std.proofs.lemmas.List.Elements.{All-append, All-cons, All-nil}
+use Rattle.std.specs.Int.{byte_at}
+use Rattle.byteorder.specs.Endian.{big_bytes}
 use Rattle.jx_marker.specs.declared.Segment.{Segment}
 use Rattle.jx_marker.specs.declared.Segment.TheVariants as segment
 use Rattle.jx_marker.specs.Ranges.{AreBytes, BytesInRange}
@@ -93,10 +95,16 @@ entry_long : (entries : List PartLength) → length (flat_map entry_bytes entrie
 entry_long [] = refl
 entry_long (e ∷ entries) = omega (arith, length-append (entry_bytes e) (flat_map entry_bytes entries), entry_long entries)
 
+low_byte : (i n : ℕ) → byte_at i n < 256
+low_byte zero n = omega arith
+low_byte (suc i) n = omega arith
+
+big_each : (k n : ℕ) (rest : List ℕ) → AreBytes rest → AreBytes (big_bytes k n ++ rest)
+big_each zero n rest each = each
+big_each (suc k) n rest each = All-cons (λ (byte : ℕ). byte < 256) (byte_at k n) (big_bytes k n ++ rest) (low_byte k n) (big_each k n rest each)
+
 entry_each : (e : PartLength) (rest : List ℕ) → AreBytes rest → AreBytes (entry_bytes e ++ rest)
-entry_each e rest each =
-    let A : (n : ℕ) (xs : List ℕ) → n < 256 → AreBytes xs → AreBytes (n ∷ xs) = λ n xs lt all. All-cons (λ (byte : ℕ). byte < 256) n xs lt all in
-    A _ _ (omega arith) (A _ _ (omega arith) (A _ _ (omega arith) (A _ _ (omega arith) (A _ _ (omega arith) (A _ _ (omega arith) each)))))
+entry_each e rest each = big_each 2 e.tile (big_bytes 4 e.length ++ rest) (big_each 4 e.length rest each)
 
 entries_each : (entries : List PartLength) → AreBytes (flat_map entry_bytes entries)
 entries_each [] = All-nil (λ (byte : ℕ). byte < 256)
@@ -126,7 +134,7 @@ few_numbers : (n : ℕ) → n ≤ 2795776 → index_count n ≤ 256
 few_numbers n few = omega arith
 
 held_range : (tlm : Bool) (entries : List PartLength) → (tlm ≡ true → length entries ≤ 2795776) → AllByRecursion (BytesInRange 2) (held_in tlm entries)
-held_range true entries few = numbered_range entries 0 (index_count (length entries)) (few_numbers (length entries) (few refl))
+held_range true entries few = numbered_range entries 0 (index_count (length entries)) (omega (arith, few_numbers (length entries) (few refl)))
 held_range false entries few = tt
 
 pub index_stands : (m : Marks) (comps : ℕ) (before : List Segment) (parts : List TilePart) → (m.tlm ≡ true → length (map entry_of parts) ≤ 2795776)

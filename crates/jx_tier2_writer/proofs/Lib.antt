@@ -10,6 +10,7 @@ mod IndexLemmas
 mod CoverLemmas
 mod ReadyLemmas
 mod ReadLemmas
+mod IndexedLemmas
 mod TellLemmas
 mod WholeLemmas
 mod StrictLemmas

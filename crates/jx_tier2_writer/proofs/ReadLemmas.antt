@@ -29,7 +29,7 @@ use Rattle.jx_codestream.proofs.ShapeLemmas.{siz_is}
 use Rattle.jx_tile.specs.Covered.{IsListOf}
 use Rattle.jx_tier2_reader.specs.Written.{AreFilled, Packets, bytes_from, packets_in}
 use Rattle.jx_tier2_writer.specs.Lengths.{numbered}
-use Rattle.jx_tier2_writer.specs.Ready.{AllShort, AreReady, AreShort, stream_read}
+use Rattle.jx_tier2_writer.specs.Ready.{AllShort, AreReady, AreShort, stream_with}
 use Rattle.jx_options.specs.declared.Marks.{Marks}
 use Rattle.jx_tier2_writer.specs.TileParts.{packet_length, packets_of, written_part_header, parts_with, tile_part, tile_parts}
 use Rattle.jx_tier2_writer.specs.SameHeaders.{IsWithLengths}
@@ -121,7 +121,7 @@ module _ (m : Marks) (s : Stream) (blocks : List Block) (b : List ℕ) (parts : 
 
   -- the stream that is read
   abbrev pub it : Stream
-  it = stream_read s parts
+  it = stream_with s all_parts
 
   abbrev made : ℕ → List TilePart
   made t = tile_parts m s blocks t (groups t)
