@@ -35,7 +35,7 @@ use Rattle.jx_layers.specs.Rule.{Rule}
 use Rattle.jx_options.specs.declared.Marks.{Marks}
 use Rattle.jx_plan.specs.Asides.{is_informational, is_left_out, is_plt}
 use Rattle.jx_plan.specs.Fits.{Fits, first_zero}
-use Rattle.jx_plan.specs.Headers.{HeaderOptions, MayBeInHeaders, cod_written, comp_written, params_written, stream_written, with_layers}
+use Rattle.jx_plan.specs.Headers.{HeaderOptions, MayBeInHeaders, cod_written, comp_written, params_written, rsiz_written, stream_written, with_layers}
 use Rattle.jx_plan.specs.Causes.{IsFree}
 use Rattle.jx_plan.specs.Meaning.{Component, Meaning, Place, component_of, meaning_of, sample_at}
 use Rattle.jx_plan.specs.Plan.{MayBePlanned, headers_with}
@@ -95,7 +95,7 @@ pub record LayerLaws : Type 0 where
       → IsAsked b (style_for style b) (ends_of rule layers blocks number b)
   pub final : (asked : Option Style) (ends : List LayerEnd) (b : Block) (layer : ℕ) → IsAsked b (style_for asked b) ends → is_wrong asked b ≡ false → HasFirstLayers asked ends b layer
 
-siz_written : (a : HeaderOptions) (s : Stream) → (stream_written a s).siz ≡ record s.siz { rsiz = 0 }
+siz_written : (a : HeaderOptions) (s : Stream) → (stream_written a s).siz ≡ record s.siz { rsiz = rsiz_written a.wanted.rsiz s.siz.rsiz }
 unfolding stream_written
 siz_written a s = refl
 
