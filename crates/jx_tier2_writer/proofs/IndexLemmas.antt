@@ -1,6 +1,10 @@
 -- TLM segments behind a main header: nothing is found in them, so what the header says stays; and they are such as may stand there.
-use Rattle.std.proofs.Common.{◌≡◌, ◌∙◌, ◌<◌, ◌≤◌, ◌+◌, ◌*◌, ◌==◌, ℕ, zero, suc, Bool, true, false, arith, List, [], ◌∷◌, ◌++◌, length, map, take, drop, refl, sym, ap, subst, inl, inr, cond, length-append}
+use Rattle.std.proofs.Common.{◌≡◌, ◌∙◌, ◌<◌, ◌≤◌, ◌+◌, ◌-◌, ◌*◌, ◌==◌, ℕ, min, zero, suc, Bool, true, false, arith, List, [], ◌∷◌, ◌++◌, length, map, take, drop, refl, sym, ap, subst, inl, inr, cond, length-append, append-nil}
 use Rattle.std.specs.List.{All, AllByRecursion, filter, flat_map, list_any, range_with_len}
+use Rattle.std.proofs.Math.Seq.{take-length}
+use Rattle.std.proofs.lemmas.Grind.{flat_map-append}
+use Rattle.std.proofs.lemmas.List.{length-drop, take_min}
+use Rattle.std.proofs.lemmas.List.FromFn.{map-range_with_len_more}
 use Rattle.std.proofs.lemmas.Bool.{cases_Bool}
 use Rattle.std.proofs.lemmas.Bool.Decides.{nat_tests}
 use Rattle.std.proofs.lemmas.List.Elements.{All-append, All-cons, All-nil}
@@ -9,10 +13,11 @@ use Rattle.byteorder.specs.Endian.{big_bytes}
 use Rattle.jx_marker.specs.declared.Segment.{Segment}
 use Rattle.jx_marker.specs.declared.Segment.TheVariants as segment
 use Rattle.jx_marker.specs.Ranges.{AreBytes, BytesInRange}
+use Rattle.jx_marker.specs.Segments.{spelling}
 use Rattle.jx_codestream.specs.declared.headers.HeaderKind.TheVariants.{Main}
 use Rattle.jx_codestream.specs.First.{lacks_default}
 use Rattle.jx_codestream.specs.Headers.{has_slot, slot_of}
-use Rattle.jx_codestream.specs.Spells.{AreSegments, TilePart}
+use Rattle.jx_codestream.specs.Spells.{AreSegments, TilePart, all_bytes}
 use Rattle.jx_codestream.specs.Tiles.{entries_joined, entries_of, in_slot}
 use Rattle.jx_options.specs.declared.Marks.{Marks}
 use Rattle.jx_plan.specs.Asides.{is_informational}
@@ -91,7 +96,7 @@ pub index_is : (m : Marks) (parts : List TilePart) → index_of m parts ≡ tlms
 index_is m parts = index_by m.tlm (map entry_of parts)
 
 -- ---- and each is in its range
-entry_long : (entries : List PartLength) → length (flat_map entry_bytes entries) ≡ 6 * length entries
+pub entry_long : (entries : List PartLength) → length (flat_map entry_bytes entries) ≡ 6 * length entries
 entry_long [] = refl
 entry_long (e ∷ entries) = omega (arith, length-append (entry_bytes e) (flat_map entry_bytes entries), entry_long entries)
 
@@ -140,3 +145,24 @@ held_range false entries few = tt
 pub index_stands : (m : Marks) (comps : ℕ) (before : List Segment) (parts : List TilePart) → (m.tlm ≡ true → length (map entry_of parts) ≤ 2795776)
     → AreSegments Main comps before (tlms (index_held m parts))
 index_stands m comps before parts few = tlms_stand comps before (index_held m parts) (held_range m.tlm (map entry_of parts) few)
+
+-- ---- the bytes
+pub run_taken : {X : Type 0} (most k a : ℕ) (xs : List X) → k ≡ min (length xs - a) most → take k (take (length xs - a) (drop a xs)) ≡ take most (drop a xs)
+run_taken {X} most k a xs is =
+    let rest : List X = drop a xs in
+    let long : length rest ≡ length xs - a = length-drop a xs in
+    let whole : take (length xs - a) rest ≡ rest = ap (λ (n : ℕ). take n rest) (sym long) ∙ take-length rest in
+    let few : k ≡ min most (length rest) = omega (arith, is, long) in
+    ap (λ (z : List X). take k z) whole ∙ ap (λ (n : ℕ). take n rest) few ∙ take_min most rest
+
+pub segment_next : (entries : List PartLength) (n : ℕ) → all_bytes 1 (map (index_segment entries) (range_with_len 0 (n + 1)))
+    ≡ all_bytes 1 (map (index_segment entries) (range_with_len 0 n)) ++ spelling 1 (index_segment entries n)
+segment_next entries n =
+    ap (λ (z : List Segment). all_bytes 1 z) (map-range_with_len_more (index_segment entries) 0 n n (omega arith))
+    ∙ flat_map-append (spelling 1) (map (index_segment entries) (range_with_len 0 n)) (index_segment entries n ∷ [])
+    ∙ ap (λ (z : List ℕ). all_bytes 1 (map (index_segment entries) (range_with_len 0 n)) ++ z) (append-nil (spelling 1 (index_segment entries n)))
+
+-- in a picture of any number of components
+pub spelled_in : (comps : ℕ) (entries : List PartLength) (numbers : List ℕ) → all_bytes 1 (map (index_segment entries) numbers) ≡ all_bytes comps (map (index_segment entries) numbers)
+spelled_in comps entries [] = refl
+spelled_in comps entries (n ∷ numbers) = ap (λ (z : List ℕ). spelling 1 (index_segment entries n) ++ z) (spelled_in comps entries numbers)

@@ -11,6 +11,7 @@ mod CoverLemmas
 mod ReadyLemmas
 mod ReadLemmas
 mod IndexedLemmas
+mod FindLemmas
 mod TellLemmas
 mod WholeLemmas
 mod StrictLemmas

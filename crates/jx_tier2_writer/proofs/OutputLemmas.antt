@@ -1,8 +1,8 @@
 -- A written file has the blocks that it was written from, and headers and packets give one file alone.
-use Rattle.std.proofs.Common.{◌≡◌, ◌∙◌, ◌<◌, ◌≤◌, ◌^◌, ◌++◌, ℕ, true, append-nil, arith, List, [], length, map, refl, sym, ap, subst, None, inl, inr, ◌⊎◌}
+use Rattle.std.proofs.Common.{◌≡◌, ◌∙◌, ◌<◌, ◌≤◌, ◌^◌, ◌++◌, ℕ, true, false, append-nil, arith, List, [], length, map, take, drop, ◌+◌, refl, sym, ap, subst, None, Some, inl, inr, ◌⊎◌}
 use Rattle.std.proofs.lemmas.List.{length-map}
 use Rattle.std.proofs.lemmas.Bool.{cases_lt}
-use Rattle.std.specs.List.{All, slice_get}
+use Rattle.std.specs.List.{All, AllByRecursion, list_any, slice_get}
 use Rattle.jx_base.specs.declared.pieces.Block.{Block}
 use Rattle.jx_base.specs.Joined.{joined, sum_below}
 use Rattle.jx_base.specs.Sound.{IsSound}
@@ -16,7 +16,11 @@ use Rattle.jx_codestream.specs.declared.Stream.{Stream}
 use Rattle.jx_codestream.specs.First.{tile_number}
 use Rattle.jx_codestream.specs.Read.{IsRead}
 use Rattle.jx_codestream.specs.Shapes.{geometry, layers_of, tile_at}
-use Rattle.jx_codestream.specs.Spells.{TilePart, file_bytes}
+use Rattle.jx_codestream.specs.Spells.{TilePart, file_bytes, first_sot, part_bytes}
+use Rattle.jx_plan.specs.Asides.{is_left_out}
+use Rattle.jx_marker.specs.declared.Segment.{Segment}
+use Rattle.jx_marker.specs.declared.Segment.TheVariants as segment
+use Rattle.jx_marker.specs.Segments.{spelling}
 use Rattle.jx_tier2_reader.specs.Accepted.{IsAccepted}
 use Rattle.jx_tier2_reader.specs.BlockOf.{AreBlocksOf}
 use Rattle.jx_tile.specs.Covered.{IsListOf, IsWhole}
@@ -31,7 +35,7 @@ use Rattle.jx_tier2_reader.proofs.BlockOfLemmas.{blocks_of_stream}
 use Rattle.jx_tier2_reader.proofs.SoundLemmas.{sound_gathered}
 use Rattle.jx_tier2_reader.proofs.PlanLemmas.{planned_gathered, planned_written}
 use Rattle.jx_tier2_writer.specs.Ready.{AllShort, AreReady, AreShort, HasList, cod_at, stream_read, stream_with}
-use Rattle.jx_tier2_writer.specs.Index.{entry_of, index_of, indexed}
+use Rattle.jx_tier2_writer.specs.Index.{entries_told, entry_of, index_of, index_segments, indexed, length_before}
 use Rattle.jx_tier2_writer.specs.Strict.{AreStrictParts, IsStrict, IsStrictTile}
 use Rattle.jx_tier2_writer.proofs.AlikeLemmas.{AreAlike, cod_alike}
 use Rattle.jx_tier2_writer.proofs.IndexedLemmas.{cut_to, list_same, main_alike, ready_to, tiles_alike}
@@ -45,7 +49,9 @@ use Rattle.jx_plan.specs.Groups.{HasFewParts, IsPartCount, groups_of}
 use Rattle.jx_plan.proofs.GroupLemmas.{groups_stay, some_group}
 use Rattle.jx_tier2_writer.specs.TileParts.{AreTilePartsOf, IsOutput, packets_of, tile_parts}
 use Rattle.jx_tier2_writer.proofs.ReadyLemmas.{ready_list, ready_whole}
-use Rattle.jx_tier2_writer.proofs.ReadLemmas.{IsCutInto, alike, filled, header_with, is_read, no_notes, progressions_same}
+use Rattle.jx_tier2_writer.proofs.ReadLemmas.{IsCutInto, alike, all_of, filled, header_with, is_read, no_notes, parts_there, progressions_same}
+use Rattle.jx_tier2_writer.proofs.FindLemmas.{IsTold, all_told, index_told, small_entries, stands_at}
+use Rattle.jx_codestream.proofs.RangeLemmas.{few_tiles}
 use Rattle.jx_tier2_writer.proofs.SameLemmas.{blocks_same, geometry_same, layers_same, packets_same, params_same, planes_same, step_same, totals_same}
 use Rattle.jx_tier2_writer.specs.SameHeaders.{HasHeadersOf}
 
@@ -202,7 +208,7 @@ module _ (m : Marks) (s : Stream) (blocks : List Block) (b : List ℕ) (out : Is
         count_is = ap (λ (z : List TilePart). length z) is.are ∙ made_long m (length s.siz.comps) t (header_of s t) (packets_of m s t blocks) (length own) 0 0 own;
       }
 
-  few_entries : m.tlm ≡ true → length (map entry_of all) ≤ 2795776
+  pub few_entries : m.tlm ≡ true → length (map entry_of all) ≤ 2795776
   few_entries asked =
       let few : sum_below (λ (t : ℕ). length (out.parts t)) tiles ≤ 2795776 = ready.index asked (λ (t : ℕ). length (out.parts t)) counted in
       omega (arith, length-map all entry_of, few, joined_length out.parts (λ (t : ℕ). length (out.parts t)) tiles (λ t. refl))
@@ -269,6 +275,23 @@ module _ (m : Marks) (s : Stream) (blocks : List Block) (b : List ℕ) (out : Is
         planes = λ t c r band. is.planes t c r band ∙ planes_same s index s.tiles (main_alike m s all) (tiles_alike m s all) t c r band;
         places = λ t. is.places t ∙ indexed_geometry m s all t;
       }
+
+  -- ---- the index leads to each tile-part
+  told_all : AllShort out.parts tiles → AllByRecursion (IsTold (length s.siz.comps)) all
+  told_all short =
+      all_told (length s.siz.comps) out.parts tiles (omega (arith, few_tiles s.siz ready.few_tiles)) (all_of m with_index blocks b out.parts groups ready_now cut_now short out.bytes)
+
+  pub entries_found : AllShort out.parts tiles → m.tlm ≡ true → list_any is_left_out s.main ≡ false → entries_told (stream_read m s out.parts).main ≡ map entry_of all
+  entries_found short asked none =
+      let index : index_of m all ≡ index_segments (map entry_of all) = rw asked refl in
+      ap (λ (z : List Segment). entries_told (s.main ++ z)) index
+      ∙ index_told s.main (map entry_of all) none (small_entries (length s.siz.comps) all (told_all short)) (few_entries asked)
+
+  pub parts_found : AllShort out.parts tiles → (i : ℕ) (p : TilePart) → slice_get all i ≡ Some p
+      → take p.sot.psot (drop (first_sot s.siz (stream_read m s out.parts).main + length_before i (map entry_of all)) b) ≡ part_bytes (length s.siz.comps) p
+  parts_found short i p there =
+      stands_at (length s.siz.comps) b (first_sot s.siz with_index.main) all (spelling 1 segment.Eoc ++ []) i p (told_all short)
+      (parts_there m with_index blocks b out.parts groups ready_now cut_now short out.bytes) there
 
 -- ---- one file
 pub one_tile : (m : Marks) (s : Stream) (blocks : List Block) (t : ℕ) (xs ys : List TilePart) → AreTilePartsOf m s blocks t xs → AreTilePartsOf m s blocks t ys → xs ≡ ys
