@@ -6,9 +6,12 @@ mod TurnLemmas
 mod PlaceLemmas
 pub mod MadeLemmas
 mod SameLemmas
+mod IndexLemmas
 mod CoverLemmas
 mod ReadyLemmas
 mod ReadLemmas
+mod IndexedLemmas
+mod FindLemmas
 mod TellLemmas
 mod WholeLemmas
 mod StrictLemmas

@@ -14,6 +14,10 @@ use Rattle.jx_tier2_writer.specs.declared.index.PartLength.{PartLength}
 abbrev pub entry_of : TilePart → PartLength
 entry_of p = record { tile = p.sot.tile; length = p.sot.psot }
 
+-- the same of a tile-part of a tile, by its bytes
+abbrev pub length_in : ℕ → List ℕ → PartLength
+length_in t bytes = record { tile = t; length = length bytes }
+
 abbrev pub entry_bytes : PartLength → List ℕ
 entry_bytes e = big_bytes 2 e.tile ++ big_bytes 4 e.length
 

@@ -46,6 +46,11 @@ fn put_entries(entries: &[PartLength], out: &mut Vec<u8>) -> Result<(), NoMemory
     Ok(())
 }
 
+/// What is told of tile-parts takes six bytes for each.
+fn are_long(entries: &[PartLength])
+    ensures { length (flat_map entry_bytes entries.now) ≡ 6 * length entries.now }
+{}
+
 /// Appends the segment of a number with these entries.
 fn put_segment_of(
     alloc: Global,
@@ -61,6 +66,7 @@ fn put_segment_of(
     bytes.push(STLM)?;
     put_entries(entries, &mut bytes)?;
     are_bytes(&bytes);
+    are_long(entries);
     put_segment(&Segment::Tlm(Bytes::new(bytes)), 1, out)
 }
 

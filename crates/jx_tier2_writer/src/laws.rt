@@ -1,8 +1,8 @@
 //! Laws over the file that is written from headers and code-blocks. The functions do nothing but cite laws of the crates below:
 //! their contracts carry the laws.
 
-ghost use Rattle.std.specs.Prelude.{◌≡◌, ◌<◌, ◌≤◌, ◌^◌, ℕ, List, None, false, length};
-ghost use Rattle.std.specs.List.{All, flat_map};
+ghost use Rattle.std.specs.Prelude.{◌≡◌, ◌<◌, ◌≤◌, ◌+◌, ◌^◌, ℕ, List, None, Some, drop, false, length, map, slice_get, take, true};
+ghost use Rattle.std.specs.List.{All, flat_map, list_any};
 ghost use Rattle.jx_base.specs.declared.pieces.Block.{Block};
 ghost use Rattle.jx_base.specs.Joined.{joined};
 ghost use Rattle.jx_base.specs.Sound.{IsSound};
@@ -14,7 +14,7 @@ ghost use Rattle.jx_codestream.specs.First.{tile_number};
 ghost use Rattle.jx_codestream.specs.InRange.{StreamInRange};
 ghost use Rattle.jx_codestream.specs.Read.{IsRead};
 ghost use Rattle.jx_codestream.specs.Shapes.{geometry};
-ghost use Rattle.jx_codestream.specs.Spells.{TilePart};
+ghost use Rattle.jx_codestream.specs.Spells.{TilePart, first_sot, part_bytes};
 ghost use Rattle.jx_tier2_reader.specs.Accepted.{IsAccepted};
 ghost use Rattle.jx_tier2_reader.specs.Another.{HaveSameBlocks};
 ghost use Rattle.jx_tier2_reader.specs.BlockOf.{AreBlocksOf};
@@ -22,7 +22,7 @@ ghost use Rattle.jx_tile.specs.Covered.{IsListOf, IsWhole};
 ghost use Rattle.jx_tier2_reader.specs.Gathered.{IsGathered};
 ghost use Rattle.jx_tile.specs.Totals.{totals_fault};
 ghost use Rattle.jx_tier2_reader.specs.WellFormed.{IsWellFormed};
-ghost use Rattle.jx_tier2_writer.specs.Index.{index_of};
+ghost use Rattle.jx_tier2_writer.specs.Index.{entries_told, entry_of, index_of, length_before, length_in};
 ghost use Rattle.jx_tier2_writer.specs.Kept.{IsKeptIn};
 ghost use Rattle.jx_tier2_writer.specs.Lengths.{length_bytes, length_segments};
 ghost use Rattle.jx_tier2_writer.specs.Ready.{AllShort, AreReady, HasList, stream_read};
@@ -31,6 +31,7 @@ ghost use Rattle.jx_tier2_writer.specs.Strict.{IsStrict};
 ghost use Rattle.jx_tier2_writer.specs.Told.{length_total, lengths_from};
 ghost use Rattle.jx_options.specs.declared.Marks.{Marks};
 ghost use Rattle.jx_layers.specs.Rule.{Rule};
+ghost use Rattle.jx_plan.specs.Asides.{is_left_out};
 ghost use Rattle.jx_plan.specs.Causes.{IsFree};
 ghost use Rattle.jx_codeblock.specs.Written.{is_wrong};
 ghost use Rattle.jx_plan.specs.Plan.{MayBePlanned, headers_with};
@@ -85,6 +86,28 @@ pub fn output_keeps_blocks()
 pub fn output_is_strict()
     ensures { (m : Marks) (s : Stream) (blocks : List Block) (b : List ℕ) (out : IsOutput m s blocks b) → AreReady m s
         → AllShort out.parts (tile_number s.siz) → AreBlocksOf s blocks → All IsSound blocks → IsStrict m b (stream_read m s out.parts) }
+{}
+
+/// The index of a written file, as it is read from its main header, names each of its tile-parts in their order by the tile and Psot (`told`),
+/// where it is asked and nothing of what isn't written stands in the headers. A tile-part stands behind the main header and as many bytes as those
+/// before it have together (`stand`), so a reader that takes the index at its word finds each (T.800, A.7.1).
+pub fn index_finds_parts()
+    ensures told { (m : Marks) (s : Stream) (blocks : List Block) (b : List ℕ) (out : IsOutput m s blocks b) → AreReady m s
+        → AllShort out.parts (tile_number s.siz) → m.tlm ≡ true → list_any is_left_out s.main ≡ false
+        → entries_told (stream_read m s out.parts).main ≡ map entry_of (joined out.parts 0 (tile_number s.siz)) }
+    ensures stand { (m : Marks) (s : Stream) (blocks : List Block) (b : List ℕ) (out : IsOutput m s blocks b) → AreReady m s
+        → AllShort out.parts (tile_number s.siz) → (i : ℕ) (p : TilePart) → slice_get (joined out.parts 0 (tile_number s.siz)) i ≡ Some p
+        → take p.sot.psot (drop (first_sot s.siz (stream_read m s out.parts).main + length_before i (map entry_of (joined out.parts 0 (tile_number s.siz)))) b)
+            ≡ part_bytes (length s.siz.comps) p }
+{}
+
+/// What the index tells of a tile's tile-parts are the tile and how many bytes each has (`lengths`); where it is asked it has room for
+/// those of all tiles (`few`).
+pub fn entries_are_lengths()
+    ensures lengths { (m : Marks) (s : Stream) (blocks : List Block) (t : ℕ) (parts : List TilePart) → AreTilePartsOf m s blocks t parts
+        → map entry_of parts ≡ map (length_in t) (map (part_bytes (length s.siz.comps)) parts) }
+    ensures few { (m : Marks) (s : Stream) (blocks : List Block) (b : List ℕ) (out : IsOutput m s blocks b) → AreReady m s → m.tlm ≡ true
+        → length (map entry_of (joined out.parts 0 (tile_number s.siz))) ≤ 2795776 }
 {}
 
 /// Headers that a file may be written from are within the ranges that geometry and packets ask for; each of their tiles has an entry
