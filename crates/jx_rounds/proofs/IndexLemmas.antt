@@ -40,9 +40,9 @@ tiles_bytes p parts zero =
 tiles_bytes p parts (suc n) =
     let f : TilePart → List ℕ = part_bytes (length p.stream.siz.comps) in
     let next : suc n ≡ n + 1 = omega arith in
-    rw next (ap bytes_sent (joined_next (sent_by p parts) 0 n (omega arith)) ∙ both_sent (joined (sent_by p parts) 0 n) (sent_by p parts n)
+    ap (λ (k : ℕ). bytes_sent (joined (sent_by p parts) 0 k)) next ∙ ap bytes_sent (joined_next (sent_by p parts) 0 n (omega arith)) ∙ both_sent (joined (sent_by p parts) 0 n) (sent_by p parts n)
     ∙ ap (λ (b : List ℕ). b ++ bytes_sent (sent_by p parts n)) (tiles_bytes p parts n) ∙ ap (λ (b : List ℕ). flat_map f (joined parts 0 n) ++ b) (tile_bytes (length p.stream.siz.comps) n (parts n))
-    ∙ sym (flat_map-append f (joined parts 0 n) (parts n)) ∙ sym (ap (λ (ps : List TilePart). flat_map f ps) (joined_next parts 0 n (omega arith))))
+    ∙ sym (flat_map-append f (joined parts 0 n) (parts n)) ∙ sym (ap (λ (ps : List TilePart). flat_map f ps) (joined_next parts 0 n (omega arith))) ∙ sym (ap (λ (k : ℕ). flat_map f (joined parts 0 k)) next)
 
 pub front_bytes : (p : Plan) (n : ℕ) (sent : List PartSent) (front : IsShortFront p n sent) → bytes_sent sent ≡ flat_map (part_bytes (length p.stream.siz.comps)) (joined front.parts 0 n)
 front_bytes p n sent front = ap bytes_sent front.sent_are ∙ tiles_bytes p front.parts n
@@ -73,9 +73,10 @@ tiles_lengths p parts (suc n) are =
     let next : suc n ≡ n + 1 = omega arith in
     let own : lengths_sent (sent_by p parts n) ≡ map entry_of (parts n) =
     tile_lengths p.wanted.marks (headers_of p) (blocks_of p) (length p.stream.siz.comps) n (parts n) (comps_stay p.wanted p.layers p.stream) (are n (omega arith)) in
-    rw next (ap lengths_sent (joined_next (sent_by p parts) 0 n (omega arith)) ∙ map-append length_sent (joined (sent_by p parts) 0 n) (sent_by p parts n)
+    ap (λ (k : ℕ). lengths_sent (joined (sent_by p parts) 0 k)) next ∙ ap lengths_sent (joined_next (sent_by p parts) 0 n (omega arith)) ∙ map-append length_sent (joined (sent_by p parts) 0 n) (sent_by p parts n)
     ∙ ap (λ (l : List PartLength). l ++ lengths_sent (sent_by p parts n)) (tiles_lengths p parts n (λ t lt. are t (omega (arith, lt)))) ∙ ap (λ (l : List PartLength). map entry_of (joined parts 0 n) ++ l) own
-    ∙ sym (map-append entry_of (joined parts 0 n) (parts n)) ∙ sym (ap (λ (ps : List TilePart). map entry_of ps) (joined_next parts 0 n (omega arith))))
+    ∙ sym (map-append entry_of (joined parts 0 n) (parts n)) ∙ sym (ap (λ (ps : List TilePart). map entry_of ps) (joined_next parts 0 n (omega arith)))
+    ∙ sym (ap (λ (k : ℕ). map entry_of (joined parts 0 k)) next)
 
 pub front_lengths : (p : Plan) (n : ℕ) (sent : List PartSent) (front : IsShortFront p n sent) → lengths_sent sent ≡ map entry_of (joined front.parts 0 n)
 front_lengths p n sent front = ap lengths_sent front.sent_are ∙ tiles_lengths p front.parts n front.are
