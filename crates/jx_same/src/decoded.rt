@@ -195,7 +195,6 @@ fn same_heads(a: &Block<'_>, b: &Block<'_>) -> bool
 }
 
 /// Whether two blocks with the same heads decode to the same coefficients, by a walk that keeps none of them.
-#[tactic(auto, using(crate::proofs::CellLemmas::same_decoded))]
 fn same_cells(
     alloc: Global,
     a: &Block<'_>,
@@ -215,9 +214,9 @@ fn same_cells(
 {
     let wide = a.rect.x.len() as u16;
     let high = a.rect.y.len() as u16;
-    let one = coded_of(alloc, a, one)?;
-    let two = coded_of(alloc, b, two)?;
-    same_flags(alloc, wide, high, &one, &two)
+    let first = coded_of(alloc, a, one)?;
+    let second = coded_of(alloc, b, two)?;
+    same_flags(alloc, wide, high, &first, &second)
 }
 
 /// Whether two blocks of one band have the same passes, so that they needn't be decoded: by their segments, where the styles are
@@ -226,6 +225,7 @@ fn same_cells(
 /// # Errors
 ///
 /// `NoMemory` where memory is refused.
+#[tactic(auto, using(crate::proofs::CellLemmas::alike_from, crate::proofs::CellLemmas::cells_alike, crate::proofs::CellLemmas::none_alike))]
 pub(crate) fn are_alike(alloc: Global, a: &Block<'_>, b: &Block<'_>) -> Result<bool, NoMemory>
     requires one { IsSound a.now }
     requires two { IsSound b.now }
