@@ -1,15 +1,13 @@
 -- Two codings that are read beside each other: where both answered alike both were read, and where they didn't no grid answers as both did.
-use Rattle.std.proofs.Common.{◌≡◌, ◌+◌, ◌*◌, ◌/◌, ℕ, Bool, true, false, ◌&&◌, drop, refl, sym, ap, ◌∙◌, subst, if◌then◌else◌}
+use Rattle.std.proofs.Common.{◌≡◌, ◌+◌, ◌*◌, ◌/◌, ℕ, Bool, true, false, drop, refl, sym, ap, ◌∙◌, subst, if◌then◌else◌}
 use Rattle.std.specs.Bool.{beq}
 use Rattle.std.proofs.lemmas.Bool.{and_parts, and_from}
 use Rattle.jx_base.specs.Passes.{raw_pass, is_causal}
-use Rattle.jx_tier1_specs.specs.declared.question.Question.{Question}
 use Rattle.jx_tier1_specs.specs.Cells.{Cells}
 use Rattle.jx_tier1_specs.specs.Asking.{Asking, Told, Ask, told}
 use Rattle.jx_tier1_specs.specs.Pass.{IsScan, plane_of, scanned, pass_of}
 use Rattle.jx_tier1_specs.specs.Segments.{begins}
-use Rattle.jx_tier1_specs.specs.Reading.{Reading, Coding, Decoding, fresh_reading, first_segment, opened, renewed, read_answer, read_within, read_symbol, read_pass}
-use Rattle.jx_tier1_specs.specs.Needs.{answer_of}
+use Rattle.jx_tier1_specs.specs.Reading.{Coding, Decoding, fresh_reading, first_segment, opened, renewed, read_answer, read_pass}
 use Rattle.jx_tier1_specs.specs.Alike.{AreAlike}
 use Rattle.jx_tier1_specs.proofs.GridLemmas.{IsFront, AreClean}
 use Rattle.jx_tier1_specs.proofs.BackLemmas.{tree_of}

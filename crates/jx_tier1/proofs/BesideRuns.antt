@@ -4,7 +4,7 @@ use Rattle.jx_base.specs.Passes.{is_causal}
 use Rattle.jx_tier1_specs.specs.Cells.{Cells}
 use Rattle.jx_tier1_specs.specs.Asking.{Asking}
 use Rattle.jx_tier1_specs.specs.Pass.{plane_of}
-use Rattle.jx_tier1_specs.specs.Reading.{Coding, Decoding, opened, read_answer, renewed, read_pass, read_from, zeros, at_start, decoded}
+use Rattle.jx_tier1_specs.specs.Reading.{Coding, Decoding, opened, read_answer, renewed, read_pass, read_from, at_start, decoded}
 use Rattle.jx_tier1_specs.specs.Alike.{HasPasses, AreAlike}
 use Rattle.jx_tier1_specs.proofs.BackLemmas.{tree_of}
 use Rattle.jx_tier1_specs.proofs.GridLemmas.{IsFront, AreClean}
@@ -13,7 +13,7 @@ use Rattle.jx_tier1_specs.proofs.PassBackLemmas.{pass_back, clean_more, one_scan
 use Rattle.jx_tier1_specs.proofs.ReadMore.{read_more, read_done}
 use Rattle.jx_tier1_specs.proofs.WholeLemmas.{Phase, phase_next, zeros_at}
 use Rattle.jx_tier1.specs.Beside.{Pair, Agree, AreBeside, pair_of}
-use Rattle.jx_tier1.specs.Notes.{Marking, Shows, unmarked}
+use Rattle.jx_tier1.specs.Notes.{Marking, unmarked}
 use Rattle.jx_tier1.specs.Walking.{IsNow}
 use Rattle.jx_tier1.proofs.ReadingLemmas.{opened_cells}
 use Rattle.jx_tier1.proofs.ShowLemmas.{shows_zeros}
