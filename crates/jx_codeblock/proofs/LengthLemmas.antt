@@ -148,7 +148,8 @@ anew_few b style sound =
     let few : b.passes ≤ 220 = omega (arith, sound.few, sound.planes) in
     omega arith
 
-anew_short : (b : Block) (style : Style) → IsSound b → bypasses style.bits ≡ true → b.passes ≤ 37 → length (concat (anew b style)) ≤ 309123
+-- 37 passes are as many as 13 planes have
+pub anew_short : (b : Block) (style : Style) → IsSound b → bypasses style.bits ≡ true → b.passes ≤ 37 → length (concat (anew b style)) ≤ 309123
 anew_short b style sound bypass few =
     let each : 7 * length (concat (anew b style)) ≤ 16389 * sevenths true 0 b.passes + 14 * b.passes =
     subst (λ (t : Bool). 7 * length (concat (anew b style)) ≤ 16389 * sevenths t 0 b.passes + 14 * b.passes) bypass (anew_cost b style sound) in
@@ -158,7 +159,3 @@ anew_short b style sound bypass few =
 
 pub anew_bytes : (b : Block) (style : Style) (ends : List LayerEnd) (r : Recoding) → IsAsked b (Some style) ends → Some r ≡ recoding b (Some style) ends → length r.bytes ≤ 2 ^ 28
 anew_bytes b style ends r asked e = subst (λ (q : Recoding). length q.bytes ≤ 2 ^ 28) (sym (is_anew b style ends r e).is) (anew_few b style asked.sound)
-
-pub bypass_bytes : (b : Block) (style : Style) (ends : List LayerEnd) (r : Recoding) → IsAsked b (Some style) ends → Some r ≡ recoding b (Some style) ends
-    → bypasses style.bits ≡ true → b.passes ≤ 37 → length r.bytes ≤ 309123
-bypass_bytes b style ends r asked e bypass few = subst (λ (q : Recoding). length q.bytes ≤ 309123) (sym (is_anew b style ends r e).is) (anew_short b style asked.sound bypass few)
