@@ -46,12 +46,11 @@ returns-then-not-comparer c =
     let passes = c.args.coded.now.passes in
     let b : HasPasses one passes = record { some = c.requires.some; most = c.requires.planes; few = c.requires.passes } in
     let i = c.loop-pass.invariant in
-    let n = both_now one two w h passes c.loop-pass.pass c.loop-pass.marks c.loop-pass.comparer s t b c.loop-pass-test.true i.way in
-    (
+    let n = both_now one two w h passes c.loop-pass.pass c.loop-pass.marks c.loop-pass.comparer s t b c.loop-pass-test.true i.way in (
       λ e. absurd (cc),
       λ same. absurd (both_stopped one two w h passes c.loop-pass.pass c.loop-pass.marks c.pass.new.marks c.loop-pass.comparer c.pass.new.self s t b
-      (record { band = refl; causal = c.requires.causal; planes = refl }) c.loop-pass-test.true i.way
-      (c.in_ok-pass.ensures.beside i.way.one i.way.two i.way.agree n) (ap (λ (x : Pair). x.alike) (sym c.comparer.view_is) ∙ c.if-not-comparer.true) same),
+          (record { band = refl; causal = c.requires.causal; planes = refl }) c.loop-pass-test.true i.way
+          (c.in_ok-pass.ensures.beside i.way.one i.way.two i.way.agree n) (ap (λ (x : Pair). x.alike) (sym c.comparer.view_is) ∙ c.if-not-comparer.true) same),
     )
 
 pub returns : goal.returns
