@@ -22,13 +22,16 @@ use Rattle.jx_plan.specs.declared.faults.PlanFault.TheVariants as fault
 use Rattle.jx_layers.specs.Causal.{first_broken}
 use Rattle.jx_layers.specs.Rule.{Rule}
 use Rattle.jx_plan.specs.Fits.{Fits, IsSameAt, IsUnfit, KeepsBlocks, first_zero}
-use Rattle.jx_plan.specs.Groups.{HasFewParts, HasManyParts, IsPartedAt, groups_of, most_parts}
+use Rattle.jx_plan.specs.Causes.{IsLate}
+use Rattle.jx_plan.specs.Groups.{HasFewEntries, HasFewParts, HasManyParts, IsPartedAt, groups_of, most_parts}
+use Rattle.jx_plan.specs.Profile.{unclaimed}
 use Rattle.jx_plan.specs.Headers.{comp_written, with_layers}
 use Rattle.jx_plan.specs.Plan.{MayBePlanned, headers_with, most_packets}
 use Rattle.jx_plan.specs.Planned.{CanBePlannedBy, HasPlanCause, IsCrowded, MakesLayers, layers_of_rule}
 use Rattle.jx_options.specs.Wanted.{MayBeWanted, Wanted}
 use Rattle.jx_plan.proofs.FitLemmas.{all_at, all_made}
 use Rattle.jx_plan.proofs.LayerLaws.{CrowdLaws}
+use Rattle.jx_plan.proofs.PartedLemmas.{entries_or}
 use Rattle.jx_plan.proofs.PlanLemmas.{headers_in_range, headers_pass}
 use Rattle.jx_plan.proofs.StreamLemmas.{tile_number_stays}
 
@@ -113,21 +116,31 @@ module _ (crowds : CrowdLaws) (s : Stream) (blocks : List Block) (w : Wanted) (m
     abbrev made : Stream
     made = headers_with w layers s
 
+    abbrev AreFew : Type 0
+    AreFew = (t : ℕ) → t < tile_number s.siz → HasFewParts w.marks.parts made t
+
+    late : packet_total made ≤ most_packets → IsCrowded r s blocks None → (number place : ℕ) → IsLate s w layers number place → Answer (Some r)
+    late few uncrowded number place cause = inr (fault.Choice number place, (λ e. absurd (cc)), inr (whole, inr (inr (record { cause = cause; uncrowded = uncrowded }))))
+
+    by_claim : packet_total made ≤ most_packets → IsCrowded r s blocks None → AreFew → HasFewEntries w.marks made → (first : Option ℕ) → unclaimed w.marks made ≡ first → Answer (Some r)
+    by_claim few uncrowded parts entries None met =
+        inl (record { whole = whole; free = record { fits = fits; few = few; parts = parts; entries = entries; claimed = met }; uncrowded = uncrowded })
+    by_claim few uncrowded parts entries (Some place) first =
+        late few uncrowded 11 place (inr (inr (refl, record { fits = fits; few = few; parts = parts; entries = entries; first = first })))
+
+    by_entries : packet_total made ≤ most_packets → IsCrowded r s blocks None → AreFew → StreamInRange made → totals_fault made ≡ None → Answer (Some r)
+    by_entries few uncrowded parts range pass = elim (entries_or w.marks made range pass) [
+      | inl entries ↦ by_claim few uncrowded parts entries (unclaimed w.marks made) refl
+      | inr many ↦ late few uncrowded 10 0 (inr (inl (refl, record { fits = fits; few = few; parts = parts; many = many; place_is = refl })))
+    ]
+
     by_parts : packet_total made ≤ most_packets → IsCrowded r s blocks None → Answer (Some r)
     by_parts few uncrowded =
         let range = headers_in_range w layers s made may.headers may.range wanted fits some little refl in
         let pass = headers_pass w layers s made may.headers may.range wanted fits some little refl may.totals few in
         elim (parted_or w.marks.parts made range pass) [
-          | inl all ↦ inl (record {
-            whole = whole;
-            free = record { fits = fits; few = few; parts = λ t inside. all t (omega (arith, inside, tile_number_stays (with_layers w layers) s)) };
-            uncrowded = uncrowded;
-          })
-          | inr place ↦ inr (
-            fault.Choice 5 place.0,
-            (λ e. absurd (cc)),
-            inr (whole, inr (inr (refl, record { many = record { fits = fits; few = few; many = place.1 }; uncrowded = uncrowded }))),
-          )
+          | inl all ↦ by_entries few uncrowded (λ t inside. all t (omega (arith, inside, tile_number_stays (with_layers w layers) s))) range pass
+          | inr place ↦ late few uncrowded 5 place.0 (inl (refl, record { fits = fits; few = few; many = place.1 }))
         ]
 
     by_crowds : packet_total made ≤ most_packets → (lowest : Option ℕ) → IsCrowded r s blocks lowest → Answer (Some r)

@@ -9,14 +9,16 @@ use Rattle.jx_codestream.specs.declared.Stream.{Stream}
 use Rattle.jx_codestream.specs.First.{tile_number}
 use Rattle.jx_tile.specs.Totals.{packet_total}
 use Rattle.jx_codeblock.specs.Written.{block_asked}
+use Rattle.jx_options.specs.declared.Marks.{Marks}
 use Rattle.jx_options.specs.declared.PartChoice.{PartChoice}
 use Rattle.jx_plan.specs.Headers.{with_layers}
 use Rattle.jx_plan.specs.declared.faults.PlanFault.{PlanFault}
 use Rattle.jx_plan.specs.declared.faults.PlanFault.TheVariants as fault
 use Rattle.jx_layers.specs.Causal.{first_broken}
 use Rattle.jx_plan.specs.Fits.{AreUnfit, Fits, IsUnfit}
-use Rattle.jx_plan.specs.Groups.{HasFewParts, IsPartedAt}
-use Rattle.jx_plan.specs.Causes.{HasManyPartsAt, IsFree, IsPlaneBroken, PassesPackets}
+use Rattle.jx_plan.specs.Groups.{HasFewEntries, HasFewParts, HasManyEntries, IsPartedAt}
+use Rattle.jx_plan.specs.Profile.{unclaimed}
+use Rattle.jx_plan.specs.Causes.{HasManyPartsAt, IsFree, IsLate, IsPlaneBroken, PassesPackets}
 use Rattle.jx_layers.specs.Layers.{AreJobs}
 use Rattle.jx_plan.specs.Plan.{IsPlan, Plan, headers_of, headers_with, most_packets}
 use Rattle.jx_plan.specs.Planned.{CanBePlannedBy, HasLaterCause, HasPlanCause, IsCrowded, IsFreeBy, IsPlanned, IsPlannedBy, IsUnplannedBy, LacksPlan, blocks_written, layers_of_rule}
@@ -98,10 +100,20 @@ one_parted parts s c d x y = elim (cases_lt c d) [
   ]
 ]
 
+-- ---- choice 10
+entries_few : (m : Marks) (s : Stream) → HasManyEntries m s → HasFewEntries m s → ⊥
+entries_few m s many few = omega (arith, many.many, few many.asked many.counts many.each)
+
 -- ---- nothing is in the way of a plan
 few_parts : (x y : Wanted) (s t : Stream) (n : ℕ) → x ≡ y → s ≡ t → HasFewParts x.marks.parts s n → HasFewParts y.marks.parts t n
 few_parts x y s t n e h few =
     subst (λ (w : Wanted). HasFewParts w.marks.parts t n) e (subst (λ (u : Stream). HasFewParts x.marks.parts u n) h few)
+
+few_entries : (x y : Wanted) (s t : Stream) → x ≡ y → s ≡ t → HasFewEntries x.marks s → HasFewEntries y.marks t
+few_entries x y s t e h few = subst (λ (w : Wanted). HasFewEntries w.marks t) e (subst (λ (u : Stream). HasFewEntries x.marks u) h few)
+
+met_claim : (x y : Wanted) (s t : Stream) → x ≡ y → s ≡ t → unclaimed x.marks s ≡ None → unclaimed y.marks t ≡ None
+met_claim x y s t e h met = subst (λ (w : Wanted). unclaimed w.marks t ≡ None) e (subst (λ (u : Stream). unclaimed x.marks u ≡ None) h met)
 
 module _ (s : Stream) (w : Wanted) (layers : ℕ) where
   plan_free : (p : Plan) → p.stream ≡ s → p.wanted ≡ w → p.layers ≡ layers → IsPlan p → IsFree s w layers
@@ -113,18 +125,50 @@ module _ (s : Stream) (w : Wanted) (layers : ℕ) where
         parts = λ t inside.
             let there : t < tile_number p.stream.siz = omega (arith, inside, ap (λ (x : Stream). tile_number x.siz) stream) in
             few_parts p.wanted w (headers_of p) (headers_with w layers s) t wanted same (plan.parts t there);
+        entries = few_entries p.wanted w (headers_of p) (headers_with w layers s) wanted same plan.entries;
+        claimed = met_claim p.wanted w (headers_of p) (headers_with w layers s) wanted same plan.claimed;
       }
 
   free_few : (found : ℕ) → IsFree s w layers → PassesPackets s w layers found → ⊥
   free_few found free passes = omega (arith, free.few, passes.count, passes.many)
 
-  free_parts : (place : ℕ) → IsFree s w layers → HasManyPartsAt s w layers place → ⊥
-  free_parts place free many =
-      let inside : place < tile_number s.siz = omega (arith, many.many.inside, tile_number_stays (with_layers w layers) s) in
-      parted_few w.marks.parts (headers_with w layers s) place many.many (free.parts place inside)
+  -- choices 5, 10 and 11
+  abbrev made : Stream
+  made = headers_with w layers s
 
-  few_many : (place found : ℕ) → HasManyPartsAt s w layers place → PassesPackets s w layers found → ⊥
-  few_many place found parts passes = omega (arith, parts.few, passes.count, passes.many)
+  many_few : (place : ℕ) → HasManyPartsAt s w layers place → ((t : ℕ) → t < tile_number s.siz → HasFewParts w.marks.parts made t) → ⊥
+  many_few place many few =
+      let inside : place < tile_number s.siz = omega (arith, many.many.inside, tile_number_stays (with_layers w layers) s) in
+      parted_few w.marks.parts made place many.many (few place inside)
+
+  one_late : (a c b d : ℕ) → IsLate s w layers a c → IsLate s w layers b d → ◌≡◌ {A = PlanFault} (fault.Choice a c) (fault.Choice b d)
+  one_late a c b d (inl x) (inl y) = same_choice a b c d (x.0 ∙ sym y.0) (one_parted w.marks.parts made c d x.1.many y.1.many)
+  one_late a c b d (inl x) (inr (inl y)) = absurd (many_few c x.1 y.1.parts)
+  one_late a c b d (inl x) (inr (inr y)) = absurd (many_few c x.1 y.1.parts)
+  one_late a c b d (inr (inl x)) (inl y) = absurd (many_few d y.1 x.1.parts)
+  one_late a c b d (inr (inr x)) (inl y) = absurd (many_few d y.1 x.1.parts)
+  one_late a c b d (inr (inl x)) (inr (inl y)) = same_choice a b c d (x.0 ∙ sym y.0) (x.1.place_is ∙ sym y.1.place_is)
+  one_late a c b d (inr (inl x)) (inr (inr y)) = absurd (entries_few w.marks made x.1.many y.1.entries)
+  one_late a c b d (inr (inr x)) (inr (inl y)) = absurd (entries_few w.marks made y.1.many x.1.entries)
+  one_late a c b d (inr (inr x)) (inr (inr y)) = same_choice a b c d (x.0 ∙ sym y.0) (same_some _ c d x.1.first y.1.first)
+
+  late_fits : (number place : ℕ) → IsLate s w layers number place → Fits w.precincts s
+  late_fits number place (inl x) = x.1.fits
+  late_fits number place (inr (inl x)) = x.1.fits
+  late_fits number place (inr (inr x)) = x.1.fits
+
+  late_few : (number place : ℕ) → IsLate s w layers number place → packet_total made ≤ most_packets
+  late_few number place (inl x) = x.1.few
+  late_few number place (inr (inl x)) = x.1.few
+  late_few number place (inr (inr x)) = x.1.few
+
+  free_late : (number place : ℕ) → IsFree s w layers → IsLate s w layers number place → ⊥
+  free_late number place free (inl x) = many_few place x.1 free.parts
+  free_late number place free (inr (inl x)) = entries_few w.marks made x.1.many free.entries
+  free_late number place free (inr (inr x)) = none_some _ place x.1.first free.claimed
+
+  late_passes : (number place found : ℕ) → IsLate s w layers number place → PassesPackets s w layers found → ⊥
+  late_passes number place found late passes = omega (arith, late_few number place late, passes.count, passes.many)
 
 -- ---- choice 4
 module _ (crowds : CrowdLaws) (r : Rule) (s : Stream) (blocks : List Block) where
@@ -139,7 +183,7 @@ module _ (crowds : CrowdLaws) (s : Stream) (blocks : List Block) (w : Wanted) wh
   lacks_fits : (o : Option Rule) (e : PlanFault) → (e ≡ fault.NoMemory → ⊥) → LacksPlan o s blocks w e → Fits w.precincts s
   lacks_fits None e ne h = h.0
   lacks_fits (Some r) (fault.Choice a c) ne (inl h) = h.1.fits
-  lacks_fits (Some r) (fault.Choice a c) ne (inr h) = h.1.many.fits
+  lacks_fits (Some r) (fault.Choice a c) ne (inr h) = late_fits s w (layers_of_rule r s blocks) a c h.cause
   lacks_fits (Some r) (fault.Limit a c) ne h = h.1.fits
   lacks_fits (Some r) fault.NoMemory ne h = absurd (ne refl)
 
@@ -149,14 +193,13 @@ module _ (crowds : CrowdLaws) (s : Stream) (blocks : List Block) (w : Wanted) wh
   lacks_same (Some r) (fault.Choice a c) fault.NoMemory ne nf he hf = absurd (nf refl)
   lacks_same (Some r) (fault.Limit a c) fault.NoMemory ne nf he hf = absurd (nf refl)
   lacks_same (Some r) (fault.Choice a c) (fault.Choice b d) ne nf (inl x) (inl y) = same_choice a b c d (x.0 ∙ sym y.0) (one_crowded crowds r s blocks c d x.1.lowest y.1.lowest)
-  lacks_same (Some r) (fault.Choice a c) (fault.Choice b d) ne nf (inl x) (inr y) = absurd (none_crowded crowds r s blocks c x.1.lowest y.1.uncrowded)
-  lacks_same (Some r) (fault.Choice a c) (fault.Choice b d) ne nf (inr x) (inl y) = absurd (none_crowded crowds r s blocks d y.1.lowest x.1.uncrowded)
-  lacks_same (Some r) (fault.Choice a c) (fault.Choice b d) ne nf (inr x) (inr y) =
-      same_choice a b c d (x.0 ∙ sym y.0) (one_parted w.marks.parts _ c d x.1.many.many y.1.many.many)
+  lacks_same (Some r) (fault.Choice a c) (fault.Choice b d) ne nf (inl x) (inr y) = absurd (none_crowded crowds r s blocks c x.1.lowest y.uncrowded)
+  lacks_same (Some r) (fault.Choice a c) (fault.Choice b d) ne nf (inr x) (inl y) = absurd (none_crowded crowds r s blocks d y.1.lowest x.uncrowded)
+  lacks_same (Some r) (fault.Choice a c) (fault.Choice b d) ne nf (inr x) (inr y) = one_late s w (layers_of_rule r s blocks) a c b d x.cause y.cause
   lacks_same (Some r) (fault.Choice a c) (fault.Limit b d) ne nf (inl x) hf = absurd (omega (arith, x.1.few, hf.1.count, hf.1.many))
-  lacks_same (Some r) (fault.Choice a c) (fault.Limit b d) ne nf (inr x) hf = absurd (few_many s w _ c d x.1.many hf.1)
+  lacks_same (Some r) (fault.Choice a c) (fault.Limit b d) ne nf (inr x) hf = absurd (late_passes s w (layers_of_rule r s blocks) a c d x.cause hf.1)
   lacks_same (Some r) (fault.Limit a c) (fault.Choice b d) ne nf he (inl y) = absurd (omega (arith, y.1.few, he.1.count, he.1.many))
-  lacks_same (Some r) (fault.Limit a c) (fault.Choice b d) ne nf he (inr y) = absurd (few_many s w _ d c y.1.many he.1)
+  lacks_same (Some r) (fault.Limit a c) (fault.Choice b d) ne nf he (inr y) = absurd (late_passes s w (layers_of_rule r s blocks) b d c y.cause he.1)
   lacks_same (Some r) (fault.Limit a c) (fault.Limit b d) ne nf he hf = same_limit a b c d (he.0 ∙ sym hf.0) (he.1.count ∙ sym hf.1.count)
 
   later_same : (o : Option Rule) (e f : PlanFault) → (e ≡ fault.NoMemory → ⊥) → (f ≡ fault.NoMemory → ⊥) → HasLaterCause o s blocks w e → HasLaterCause o s blocks w f → e ≡ f
@@ -174,7 +217,7 @@ module _ (crowds : CrowdLaws) (s : Stream) (blocks : List Block) (w : Wanted) wh
   -- nothing is in the way, and a cause is
   free_lacks : (r : Rule) (e : PlanFault) → IsFreeBy r s blocks w → IsUnplannedBy r s blocks w e → e ≡ fault.NoMemory
   free_lacks r (fault.Choice number place) free (inl x) = absurd (none_crowded crowds r s blocks place x.1.lowest free.uncrowded)
-  free_lacks r (fault.Choice number place) free (inr x) = absurd (free_parts s w (layers_of_rule r s blocks) place free.free x.1.many)
+  free_lacks r (fault.Choice number place) free (inr x) = absurd (free_late s w (layers_of_rule r s blocks) number place free.free x.cause)
   free_lacks r (fault.Limit number found) free cause = absurd (free_few s w (layers_of_rule r s blocks) found free.free cause.1)
   free_lacks r fault.NoMemory free cause = refl
 

@@ -8,11 +8,18 @@ use Rattle.jx_plan.specs.Planned.{chosen}
 use Rattle.jx_plan.specs.Questions.{AtFirst, HasNone, IsAskedAfter, IsFirstOf}
 use Rattle.jx_plan.specs.Steps.{IsTooMuch}
 use Rattle.jx_options.specs.Wanted.{Wanted}
+use Rattle.jx_plan.specs.Causes.{IsLate}
 
--- limit 7, choice 4 and choice 5 come after all questions
+-- choices 5, 10 and 11 are no choice below 4 and not choice 6
+late_asked : (s : Stream) (w : Wanted) (layers number place : ℕ) → IsLate s w layers number place → (4 ≤ number) × (number ≡ 6 → ⊥)
+late_asked s w layers number place (inl five) = (omega (arith, five.0), λ six. omega (arith, six, five.0))
+late_asked s w layers number place (inr (inl ten)) = (omega (arith, ten.0), λ six. omega (arith, six, ten.0))
+late_asked s w layers number place (inr (inr eleven)) = (omega (arith, eleven.0), λ six. omega (arith, six, eleven.0))
+
+-- limit 7 and the choices 4, 5, 10 and 11 come after all questions
 pub much_asked : (s : Stream) (w : Wanted) (layers : ℕ) (jobs : List Job) (before all now : ℕ) (e : PlanFault) → now ≡ all → IsTooMuch s w layers jobs e → IsAskedAfter before all e now
-much_asked s w layers jobs before all now (fault.Choice number place) is (inl four) = inr (inl (omega (arith, four.0), omega (arith, four.0), is))
-much_asked s w layers jobs before all now (fault.Choice number place) is (inr five) = inr (inl (omega (arith, five.0), omega (arith, five.0), is))
+much_asked s w layers jobs before all now (fault.Choice number place) is (inl four) = inr (inl (omega (arith, four.0), (λ six. omega (arith, six, four.0)), is))
+much_asked s w layers jobs before all now (fault.Choice number place) is (inr late) = let asked = late_asked s w layers number place late.0 in inr (inl (asked.0, asked.1, is))
 much_asked s w layers jobs before all now (fault.Limit number found) is much = is
 much_asked s w layers jobs before all now fault.NoMemory is much = inr (omega (arith, is))
 

@@ -30,7 +30,7 @@ use Rattle.jx_codestream.specs.InRange.{StreamInRange}
 use Rattle.jx_codestream.proofs.SegmentLemmas.{defaults_there}
 use Rattle.jx_codestream.proofs.ShapeLemmas.{siz_is, shape_fits}
 use Rattle.jx_codestream.proofs.RangeLemmas.{shapes_length, shapes_at}
-use Rattle.jx_plan.specs.Headers.{HeaderOptions, MayBeInHeaders, cod_written, comp_written, all_written, tile_header, tile_written, stream_written}
+use Rattle.jx_plan.specs.Headers.{HeaderOptions, MayBeInHeaders, all_written, cod_written, comp_written, rsiz_written, stream_written, tile_header, tile_written}
 use Rattle.jx_plan.specs.Fits.{first_zero, tile_has_zero}
 use Rattle.jx_plan.specs.Standing.{IsNote, IsHeaded, HeadersStand}
 use Rattle.jx_plan.proofs.AlikeLemmas.{too_few_same, bands_same}
@@ -38,6 +38,8 @@ use Rattle.jx_plan.proofs.WrittenLemmas.{slot_written, kind_written}
 use Rattle.jx_plan.proofs.StandLemmas.{segments_written, segments_more, order_kept, style_kept}
 use Rattle.jx_plan.proofs.ZeroLemmas.{is_clear}
 use Rattle.jx_plan.proofs.StreamLemmas.{notes_aside, slots_alike, tile_slots, cod_slots, coded_at, shaped_at, shapes_stay, layers_are, style_stays, planes_stay, tile_is}
+use Rattle.jx_options.specs.declared.RsizChoice.{RsizChoice}
+use Rattle.jx_options.specs.declared.RsizChoice.TheVariants as rsiz
 
 -- the headers
 
@@ -80,12 +82,16 @@ both_there a main h =
     let both = defaults_there main h in
     rw (kind_written a 1 main refl, kind_written a 2 main refl, both.0, both.1) refl
 
-siz_written : (siz : Siz) → SizInRange siz → SizInRange (record siz { rsiz = 0 })
-siz_written siz r = record { rsiz = omega arith; x1 = r.x1; y1 = r.y1; x0 = r.x0; y0 = r.y0; tw = r.tw; th = r.th; tx = r.tx; ty = r.ty; fits = r.fits; each = r.each }
+rsiz_small : (asked : RsizChoice) (siz : Siz) → SizInRange siz → rsiz_written asked siz.rsiz < 2 ^ 14
+rsiz_small rsiz.Zero siz r = omega arith
+rsiz_small rsiz.Keep siz r = r.rsiz
 
-few_tiles : (siz : Siz) → tiles_fault siz ≡ None → tiles_fault (record siz { rsiz = 0 }) ≡ None
+siz_written : (asked : RsizChoice) (siz : Siz) → SizInRange siz → SizInRange (record siz { rsiz = rsiz_written asked siz.rsiz })
+siz_written asked siz r = record { rsiz = rsiz_small asked siz r; x1 = r.x1; y1 = r.y1; x0 = r.x0; y0 = r.y0; tw = r.tw; th = r.th; tx = r.tx; ty = r.ty; fits = r.fits; each = r.each }
+
+few_tiles : (siz : Siz) (rsiz : ℕ) → tiles_fault siz ≡ None → tiles_fault (record siz { rsiz = rsiz }) ≡ None
 unfolding tiles_fault
-few_tiles siz h = h
+few_tiles siz rsiz h = h
 
 pub written_stands : (a : HeaderOptions) (s : Stream) → MayBeInHeaders a → first_zero a.wanted.precincts s ≡ None → HeadersStand s → HeadersStand (stream_written a s)
 unfolding stream_written
@@ -93,8 +99,8 @@ written_stands a s may none stand =
     let comps = length s.siz.comps in
     let clear = is_clear a.wanted.precincts s none in
     record {
-      siz = siz_written s.siz stand.siz;
-      few = few_tiles s.siz stand.few;
+      siz = siz_written a.wanted.rsiz s.siz stand.siz;
+      few = few_tiles s.siz (rsiz_written a.wanted.rsiz s.siz.rsiz) stand.few;
       main = segments_written a Main comps [] [] s.main may clear.main (λ slot k. k) stand.main;
       defaults = both_there a s.main stand.defaults;
       count = length-map s.tiles (tile_written a s.main) ∙ stand.count;

@@ -16,7 +16,7 @@ use Rattle.jx_codestream.specs.Headers.{slot_of, has_slot}
 use Rattle.jx_codestream.specs.Index.{gives}
 use Rattle.jx_codestream.specs.Tiles.{in_slot, entry_in}
 use Rattle.jx_codestream.specs.Params.{cod_in, shape_in}
-use Rattle.jx_plan.specs.Headers.{HeaderOptions, cod_written, item_at, written, is_written, all_written, tile_over, stream_written}
+use Rattle.jx_plan.specs.Headers.{HeaderOptions, all_written, cod_written, is_written, item_at, rsiz_written, stream_written, tile_over, written}
 use Rattle.jx_plan.specs.Asides.{IsAside, is_aside}
 use Rattle.jx_plan.proofs.AlikeLemmas.{AreAlike, none_asked}
 
@@ -98,10 +98,10 @@ pub bytes_next : (items : List ℕ) (res : ℕ) → map (item_at items) (range_w
 bytes_next items res = map-range_with_len_more (item_at items) 0 res res (omega arith)
 
 -- the stream of such a main header and such tiles
-pub stream_is : (a : HeaderOptions) (s : Stream) (siz : Siz) (main : List Segment) (tiles : List Tile) → siz ≡ record s.siz { rsiz = 0 } → main ≡ all_written a s.main →
+pub stream_is : (a : HeaderOptions) (s : Stream) (siz : Siz) (main : List Segment) (tiles : List Tile) → siz ≡ record s.siz { rsiz = rsiz_written a.wanted.rsiz s.siz.rsiz } → main ≡ all_written a s.main →
     tiles ≡ map (tile_over a (entry_in (in_slot 1 main))) s.tiles → (let x : Stream = record { siz = siz; main = main; tiles = tiles } in x) ≡ stream_written a s
 unfolding stream_written
 stream_is a s siz main tiles e f g =
     ap (λ (x : Siz). let y : Stream = record { siz = x; main = main; tiles = tiles } in y) e
-    ∙ ap (λ (x : List Tile). let y : Stream = record { siz = record s.siz { rsiz = 0 }; main = main; tiles = x } in y) g
-    ∙ ap (λ (x : List Segment). let y : Stream = record { siz = record s.siz { rsiz = 0 }; main = x; tiles = map (tile_over a (entry_in (in_slot 1 x))) s.tiles } in y) f
+    ∙ ap (λ (x : List Tile). let y : Stream = record { siz = record s.siz { rsiz = rsiz_written a.wanted.rsiz s.siz.rsiz }; main = main; tiles = x } in y) g
+    ∙ ap (λ (x : List Segment). let y : Stream = record { siz = record s.siz { rsiz = rsiz_written a.wanted.rsiz s.siz.rsiz }; main = x; tiles = map (tile_over a (entry_in (in_slot 1 x))) s.tiles } in y) f

@@ -1,5 +1,5 @@
--- What is in the way of a plan in the blocks and in the headers: choice 1; limit 7 and choice 5, of so many layers.
-use Rattle.std.specs.Prelude.{◌≡◌, ◌<◌, ◌≤◌, ℕ, List, Option, Some}
+-- What is in the way of a plan in the blocks and in the headers: choice 1; limit 7 and choices 5, 10 and 11, of so many layers.
+use Rattle.std.specs.Prelude.{◌≡◌, ◌⊎◌, ◌<◌, ◌≤◌, ℕ, List, Option, None, Some}
 use Rattle.jx_base.specs.declared.pieces.Block.{Block}
 use Rattle.jx_base.specs.declared.style.Style.{Style}
 use Rattle.jx_codestream.specs.declared.Stream.{Stream}
@@ -9,8 +9,9 @@ use Rattle.jx_plan.specs.declared.faults.PlanFault.{PlanFault}
 use Rattle.jx_plan.specs.declared.faults.PlanFault.TheVariants as fault
 use Rattle.jx_layers.specs.Causal.{first_broken}
 use Rattle.jx_plan.specs.Fits.{Fits}
-use Rattle.jx_plan.specs.Groups.{HasFewParts, IsPartedAt}
+use Rattle.jx_plan.specs.Groups.{HasFewEntries, HasFewParts, HasManyEntries, IsPartedAt}
 use Rattle.jx_plan.specs.Plan.{headers_with, most_packets}
+use Rattle.jx_plan.specs.Profile.{unclaimed}
 use Rattle.jx_options.specs.Wanted.{Wanted}
 
 -- limit 7, of so many layers
@@ -25,6 +26,27 @@ pub record HasManyPartsAt (s : Stream) (w : Wanted) (layers place : ℕ) : Type 
   pub few : packet_total (headers_with w layers s) ≤ most_packets
   pub many : IsPartedAt w.marks.parts (headers_with w layers s) place
 
+-- choice 10, of so many layers
+pub record HasManyEntriesAt (s : Stream) (w : Wanted) (layers place : ℕ) : Type 0 where
+  pub fits : Fits w.precincts s
+  pub few : packet_total (headers_with w layers s) ≤ most_packets
+  pub parts : (t : ℕ) → t < tile_number s.siz → HasFewParts w.marks.parts (headers_with w layers s) t
+  pub many : HasManyEntries w.marks (headers_with w layers s)
+  pub place_is : place ≡ 0
+
+-- choice 11, of so many layers
+pub record IsUnclaimedAt (s : Stream) (w : Wanted) (layers place : ℕ) : Type 0 where
+  pub fits : Fits w.precincts s
+  pub few : packet_total (headers_with w layers s) ≤ most_packets
+  pub parts : (t : ℕ) → t < tile_number s.siz → HasFewParts w.marks.parts (headers_with w layers s) t
+  pub entries : HasFewEntries w.marks (headers_with w layers s)
+  pub first : unclaimed w.marks (headers_with w layers s) ≡ Some place
+
+-- what comes after choice 4: choice 5, choice 10 or choice 11
+abbrev pub IsLate : Stream → Wanted → ℕ → ℕ → ℕ → Type 0
+IsLate s w layers number place =
+    ((number ≡ 5) × HasManyPartsAt s w layers place) ⊎ (((number ≡ 10) × HasManyEntriesAt s w layers place) ⊎ ((number ≡ 11) × IsUnclaimedAt s w layers place))
+
 -- choice 1: the lowest block that would change its causal bit within a plane
 abbrev pub IsPlaneBroken : Option Style → List Block → PlanFault → Type 0
 IsPlaneBroken style blocks (fault.Choice number place) = (number ≡ 1) × (first_broken style blocks ≡ Some place)
@@ -36,3 +58,5 @@ pub record IsFree (s : Stream) (w : Wanted) (layers : ℕ) : Type 0 where
   pub fits : Fits w.precincts s
   pub few : packet_total (headers_with w layers s) ≤ most_packets
   pub parts : (t : ℕ) → t < tile_number s.siz → HasFewParts w.marks.parts (headers_with w layers s) t
+  pub entries : HasFewEntries w.marks (headers_with w layers s)
+  pub claimed : unclaimed w.marks (headers_with w layers s) ≡ None

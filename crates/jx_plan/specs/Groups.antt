@@ -1,10 +1,12 @@
 -- Where a tile is cut into tile-parts: a new one begins where two packets that follow each other differ in the resolution, layer or
--- component that is asked. A tile without packets has one empty tile-part (ITU-T T.800, A.4.2 and B.12).
-use Rattle.std.specs.Prelude.{◌<◌, ◌≤◌, ◌==◌, ℕ, List, [], ◌∷◌, length, if◌then◌else◌}
+-- component that is asked. A tile without packets has one empty tile-part (ITU-T T.800, A.4.2 and B.12). And how many tile-parts TLM can name (A.7.1).
+use Rattle.std.specs.Prelude.{◌≡◌, ◌<◌, ◌≤◌, ◌==◌, true, ℕ, List, [], ◌∷◌, length, if◌then◌else◌}
 use Rattle.jx_progression.specs.declared.names.PacketName.{PacketName}
 use Rattle.jx_codestream.specs.declared.Stream.{Stream}
 use Rattle.jx_codestream.specs.First.{tile_number}
 use Rattle.jx_tile.specs.Covered.{IsListOf}
+use Rattle.jx_base.specs.Joined.{sum_below}
+use Rattle.jx_options.specs.declared.Marks.{Marks}
 use Rattle.jx_options.specs.declared.PartChoice.{PartChoice}
 use Rattle.jx_options.specs.declared.PartChoice.TheVariants as part
 
@@ -54,3 +56,28 @@ pub record IsPartedAt (parts : PartChoice) (s : Stream) (place : ℕ) : Type 0 w
   pub inside : place < tile_number s.siz
   pub many : HasManyParts parts s place
   pub lowest : (t : ℕ) → t < place → HasFewParts parts s t
+
+-- so many tile-parts a tile of written headers is cut into
+pub record IsPartCount (parts : PartChoice) (s : Stream) (t count : ℕ) : Type 0 where
+  pub names : List PacketName
+  pub order : IsListOf s t names
+  pub count_is : count ≡ length (groups_of parts names)
+
+-- each tile of them
+abbrev pub ArePartCounts : PartChoice → Stream → (ℕ → ℕ) → Type 0
+ArePartCounts parts s counts = (t : ℕ) → t < tile_number s.siz → IsPartCount parts s t (counts t)
+
+-- A.7.1: the entries of 256 TLM segments (Ztlm has one byte), 10,921 in each (Ltlm, of two bytes, is 4 and six for each entry)
+abbrev pub most_entries : ℕ
+most_entries = 2795776
+
+-- where TLM is asked there aren't more tile-parts in all
+abbrev pub HasFewEntries : Marks → Stream → Type 0
+HasFewEntries m s = m.tlm ≡ true → (counts : ℕ → ℕ) → ArePartCounts m.parts s counts → sum_below counts (tile_number s.siz) ≤ most_entries
+
+-- choice 10: there are
+pub record HasManyEntries (m : Marks) (s : Stream) : Type 0 where
+  pub asked : m.tlm ≡ true
+  pub counts : ℕ → ℕ
+  pub each : ArePartCounts m.parts s counts
+  pub many : most_entries < sum_below counts (tile_number s.siz)

@@ -1,4 +1,4 @@
--- The headers of the file that is written, as a stream without tile data: Rsiz is 0; POC, PLT, PLM, TLM and skipped markers are left
+-- The headers of the file that is written, as a stream without tile data: Rsiz is 0, or kept where that is asked; POC, PLT, PLM, TLM and skipped markers are left
 -- out; COD announces SOP and EPH as asked and has the order and the number of layers that are written; COD and COC have the precincts
 -- and the style that are asked; a tile's first header takes the COM segments of its later ones; all else is kept (ITU-T T.800, A.4 to A.9).
 use Rattle.std.specs.Prelude.{◌≤◌, ◌<◌, ◌^◌, ℕ, ◌+◌, ◌-◌, min, Bool, true, false, List, [], ◌∷◌, ◌++◌, length, map, Option, None, Some, IfSome, slice_index_or}
@@ -13,6 +13,8 @@ use Rattle.jx_marker.specs.declared.Segment.TheVariants as segment
 use Rattle.jx_marker.specs.declared.Cod.{Cod}
 use Rattle.jx_marker.specs.declared.Progression.{Progression}
 use Rattle.jx_options.specs.Wanted.{Wanted}
+use Rattle.jx_options.specs.declared.RsizChoice.{RsizChoice}
+use Rattle.jx_options.specs.declared.RsizChoice.TheVariants as rsiz
 use Rattle.jx_codestream.specs.Headers.{cod_slot}
 use Rattle.jx_codestream.specs.declared.Tile.{Tile}
 use Rattle.jx_codestream.specs.declared.Stream.{Stream}
@@ -108,9 +110,14 @@ tile_written a main t = record {
   bodies = [];
 }
 
+-- what profile is claimed (A.5.1, Table A.10): none, or the input's
+abbrev pub rsiz_written : RsizChoice → ℕ → ℕ
+rsiz_written rsiz.Zero profile = 0
+rsiz_written rsiz.Keep profile = profile
+
 unfoldable pub stream_written : HeaderOptions → Stream → Stream
 stream_written a s = record {
-  siz = record s.siz { rsiz = 0 };
+  siz = record s.siz { rsiz = rsiz_written a.wanted.rsiz s.siz.rsiz };
   main = all_written a s.main;
   tiles = map (tile_written a s.main) s.tiles;
 }

@@ -1,6 +1,7 @@
 pub mod Headers
 pub mod Fits
 pub mod Groups
+pub mod Profile
 pub mod Standing
 pub mod Asides
 pub mod Plan

@@ -17,9 +17,10 @@ use Rattle.jx_codestream.specs.First.{tile_number}
 use Rattle.jx_layers.specs.Causal.{first_broken}
 use Rattle.jx_layers.specs.Crowded.{IsLowestCrowded}
 use Rattle.jx_plan.specs.Fits.{Fits}
-use Rattle.jx_plan.specs.Groups.{HasFewParts}
+use Rattle.jx_plan.specs.Groups.{HasFewEntries, HasFewParts}
 use Rattle.jx_plan.specs.Headers.{stream_written, with_layers}
 use Rattle.jx_options.specs.Wanted.{MayBeWanted, Wanted}
+use Rattle.jx_plan.specs.Profile.{unclaimed}
 use Rattle.jx_plan.specs.Standing.{HeadersStand}
 
 -- a stream that was read, with its blocks
@@ -72,3 +73,7 @@ pub record IsPlan (p : Plan) : Type 0 where
   pub uncrowded : IsLowestCrowded p.jobs None
   -- choice 5
   pub parts : (t : ℕ) → t < tile_number p.stream.siz → HasFewParts p.wanted.marks.parts (headers_of p) t
+  -- choice 10
+  pub entries : HasFewEntries p.wanted.marks (headers_of p)
+  -- choice 11
+  pub claimed : unclaimed p.wanted.marks (headers_of p) ≡ None

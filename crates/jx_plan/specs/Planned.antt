@@ -1,5 +1,6 @@
 -- What is planned by a planner that was handed in, and why nothing is: choice 1; choice 3; choice 2; choice 6, where no planner serves the words
--- or it makes no rule of them; limit 7; choice 4; choice 5.
+-- or it makes no rule of them; limit 7; choice 4; choice 5;
+-- choice 10; choice 11.
 use Rattle.std.specs.Prelude.{◌≡◌, ◌⊎◌, ◌<◌, ◌≤◌, ◌^◌, ℕ, Bool, List, [], ◌∷◌, Option, None, Some, if◌then◌else◌}
 use Rattle.jx_base.specs.declared.pieces.Block.{Block}
 use Rattle.jx_base.specs.declared.style.Style.{Style}
@@ -15,7 +16,7 @@ use Rattle.jx_layers.specs.Layers.{AreJobs, written_by}
 use Rattle.jx_layers.specs.Crowded.{IsLowestCrowdedBlock}
 use Rattle.jx_layers.specs.Facts.{facts_of}
 use Rattle.jx_plan.specs.Fits.{AreUnfit, Fits}
-use Rattle.jx_plan.specs.Causes.{HasManyPartsAt, IsFree, IsPlaneBroken, PassesPackets}
+use Rattle.jx_plan.specs.Causes.{IsFree, IsLate, IsPlaneBroken, PassesPackets}
 use Rattle.jx_plan.specs.Plan.{Plan, headers_with, most_packets}
 use Rattle.jx_options.specs.Wanted.{Wanted}
 
@@ -65,14 +66,14 @@ pub record IsCrowdedAt (r : Rule) (s : Stream) (blocks : List Block) (w : Wanted
   pub few : packet_total (headers_with w (layers_of_rule r s blocks) s) ≤ most_packets
   pub lowest : IsCrowded r s blocks (Some place)
 
--- choice 5: the same, and no block is crowded
-pub record IsPartedBy (r : Rule) (s : Stream) (blocks : List Block) (w : Wanted) (place : ℕ) : Type 0 where
-  pub many : HasManyPartsAt s w (layers_of_rule r s blocks) place
+-- choice 5, 10 or 11: the same, and no block is crowded
+pub record IsLateBy (r : Rule) (s : Stream) (blocks : List Block) (w : Wanted) (number place : ℕ) : Type 0 where
+  pub cause : IsLate s w (layers_of_rule r s blocks) number place
   pub uncrowded : IsCrowded r s blocks None
 
 -- why nothing is planned by a rule
 abbrev pub IsUnplannedBy : Rule → Stream → List Block → Wanted → PlanFault → Type 0
-IsUnplannedBy r s blocks w (fault.Choice number place) = ((number ≡ 4) × IsCrowdedAt r s blocks w place) ⊎ ((number ≡ 5) × IsPartedBy r s blocks w place)
+IsUnplannedBy r s blocks w (fault.Choice number place) = ((number ≡ 4) × IsCrowdedAt r s blocks w place) ⊎ IsLateBy r s blocks w number place
 IsUnplannedBy r s blocks w (fault.Limit number found) = (number ≡ 7) × PassesPackets s w (layers_of_rule r s blocks) found
 IsUnplannedBy r s blocks w fault.NoMemory = Unit {0}
 

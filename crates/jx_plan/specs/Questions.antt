@@ -10,9 +10,9 @@ abbrev pub questions : List Block → ℕ
 questions blocks = asked_before blocks (length blocks)
 
 -- where nothing is planned, of all questions: after choices 1, 3 and 2 none was asked, and the planner hasn't begun; after choice 6 it has
--- begun, and none was asked since; after limit 7, choice 4 and choice 5 all were; after want of memory the first of them at most
+-- begun, and none was asked since; after limit 7 and the choices 4, 5, 10 and 11 all were; after want of memory the first of them at most
 abbrev pub IsAskedAfter : (before all : ℕ) → PlanFault → (now : ℕ) → Type 0
-IsAskedAfter before all (fault.Choice number place) now = ((number < 4) × (now ≡ before)) ⊎ ((4 ≤ number) × (number < 6) × (now ≡ all)) ⊎ ((number ≡ 6) × (now ≡ 0))
+IsAskedAfter before all (fault.Choice number place) now = ((number < 4) × (now ≡ before)) ⊎ ((4 ≤ number) × (number ≡ 6 → ⊥) × (now ≡ all)) ⊎ ((number ≡ 6) × (now ≡ 0))
 IsAskedAfter before all (fault.Limit number found) now = now ≡ all
 IsAskedAfter before all fault.NoMemory now = (now ≡ before) ⊎ (now ≤ all)
 

@@ -5,13 +5,13 @@ ghost use Rattle.std.specs.List.{range_with_len};
 ghost use Rattle.std.specs.Option.{option_to_list};
 ghost use Rattle.jx_codestream.specs.Headers.{cod_slot, slot_of};
 ghost use Rattle.jx_codestream.specs.Tiles.{entry_in, in_slot, or_list};
-ghost use Rattle.jx_plan.specs.Headers.{all_written, bytes_for, cod_written, is_written, item_at, order_written, precincts_written, shape_written, stream_written, style_written, tile_over, with_layers, written};
+ghost use Rattle.jx_plan.specs.Headers.{all_written, bytes_for, cod_written, is_written, item_at, order_written, precincts_written, rsiz_written, shape_written, stream_written, style_written, tile_over, with_layers, written};
 ghost use Rattle.jx_options.specs.Choices.{lent};
 
 use jx_base::{NoMemory, Style};
 use jx_codestream::{Bodies, Entries, Segments, Stream, Tile, Tiles};
 use jx_marker::{Bytes, Cod, Progression, Segment, Shape, Siz};
-use jx_options::Options;
+use jx_options::{Options, RsizChoice};
 use std::alloc::Global;
 
 /// The segment is written: POC, packet and tile-part lengths and skipped markers aren't.
@@ -277,17 +277,27 @@ fn tiles_under(
     write_tiles(alloc, tiles, options, layers, &default)
 }
 
-/// SIZ with Rsiz 0: a file that is packed anew may leave the profile that Rsiz named (A.5.1).
-fn write_siz(siz: &Siz) -> Result<Siz, NoMemory>
-    ensures { IfOk result (λ copy. copy ≡ record siz.now { rsiz = 0 }) }
+/// The profile that is claimed: none, or the input's.
+fn rsiz_for(asked: RsizChoice, rsiz: u16) -> u16
+    ensures { result ≡ rsiz_written asked rsiz }
+{
+    match asked {
+        RsizChoice::Zero => 0,
+        RsizChoice::Keep => rsiz,
+    }
+}
+
+/// SIZ with the profile that is claimed: a file that is packed anew may leave the one that Rsiz named (A.5.1).
+fn write_siz(siz: &Siz, asked: RsizChoice) -> Result<Siz, NoMemory>
+    ensures { IfOk result (λ copy. copy ≡ record siz.now { rsiz = rsiz_written asked siz.now.rsiz }) }
 {
     let mut copy = siz.copy()?;
-    copy.rsiz = 0;
+    copy.rsiz = rsiz_for(asked, siz.rsiz);
     Ok(copy)
 }
 
 /// The headers of the file that is written as the options ask, with so many layers in each tile, at least 1, as a stream without
-/// tile data: Rsiz is 0; POC, PLT, PLM, TLM and skipped markers are left out; each COD has SOP, EPH, order and layers as asked,
+/// tile data: Rsiz is 0 or kept, as asked; POC, PLT, PLM, TLM and skipped markers are left out; each COD has SOP, EPH, order and layers as asked,
 /// and each COD and COC the precincts and the style; a tile's first header takes the COM segments of its later ones; all else is
 /// kept. Time and memory follow the bytes of the headers, the precincts that are written and the number of tiles.
 ///
@@ -302,7 +312,7 @@ pub(crate) fn write_headers(
 ) -> Result<Stream, NoMemory>
     ensures { IfOk result (λ copy. copy ≡ stream_written (with_layers options.now layers) stream.now) }
 {
-    let siz = write_siz(&stream.siz)?;
+    let siz = write_siz(&stream.siz, options.rsiz)?;
     let mut main = Vec::new(alloc);
     push_written(alloc, stream.main.as_slice(), options, layers, &mut main)?;
     let tiles = tiles_under(alloc, &main, stream.tiles.as_slice(), options, layers)?;

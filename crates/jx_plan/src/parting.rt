@@ -1,12 +1,13 @@
 //! The packets of a tile, and where it is cut into tile-parts (ITU-T T.800, A.4.2 and B.12).
 
-ghost use Rattle.std.specs.Prelude.{◌≡◌, ◌∷◌, ◌<◌, ◌≤◌, ◌-◌, false, true, ℕ, None, drop, length, take, IfOk, MatchOption};
+ghost use Rattle.std.specs.Prelude.{◌≡◌, ◌∷◌, ◌<◌, ◌≤◌, ◌-◌, ℕ, None, drop, length, take, IfOk, MatchResult};
 ghost use Rattle.jx_progression.specs.Packets.{IsPacketName};
 ghost use Rattle.jx_codestream.specs.First.{tile_number};
 ghost use Rattle.jx_codestream.specs.InRange.{StreamInRange};
 ghost use Rattle.jx_tile.specs.Covered.{IsWhole};
 ghost use Rattle.jx_tile.specs.Totals.{totals_fault};
-ghost use Rattle.jx_plan.specs.Groups.{HasFewParts, HasManyParts, IsPartedAt, groups_of, key_of, more_groups};
+ghost use Rattle.jx_plan.specs.Groups.{IsPartCount, IsPartedAt, groups_of, key_of, more_groups};
+ghost use Rattle.jx_plan.specs.Steps.{AreAllParts};
 
 use jx_base::NoMemory;
 use jx_codestream::{MainView, Stream};
@@ -59,21 +60,20 @@ pub fn count_parts(names: &[PacketName], parts: PartChoice) -> usize
     count
 }
 
-/// Whether a tile would have over 255 tile-parts.
-fn has_many(
+/// How many tile-parts a tile would have.
+fn part_count(
     alloc: Global,
     written: &Stream,
     main: &MainView<'_>,
     tile: u16,
     parts: PartChoice,
-) -> Result<bool, NoMemory>
+) -> Result<usize, NoMemory>
     requires main { main.now ≡ record { siz = written.now.siz; main = written.now.main } }
     requires range { StreamInRange written.now }
     requires totals { totals_fault written.now ≡ None }
     requires tile { tile < tile_number written.now.siz }
     requires whole { IsWhole written.now tile }
-    ensures few { IfOk result (λ many. many ≡ false → HasFewParts parts written.now tile) }
-    ensures many { IfOk result (λ many. many ≡ true → HasManyParts parts written.now tile) }
+    ensures { IfOk result (λ count. IsPartCount parts written.now tile count) }
 {
     let frame = TileFrame::new(alloc, written, main, tile)?;
     let names = match frame.names(alloc) {
@@ -81,32 +81,35 @@ fn has_many(
         // No packet is uncovered, so memory was refused.
         Err(_) => return Err(NoMemory),
     };
-    Ok(count_parts(names.as_slice(), parts) > 255)
+    Ok(count_parts(names.as_slice(), parts))
 }
 
-/// The lowest tile of written headers that would have over 255 tile-parts.
+/// How many tile-parts written headers would have in all; or else the lowest tile that would have over 255.
 ///
 /// # Errors
 ///
 /// `NoMemory` where memory is refused.
-pub(crate) fn first_parted(
+pub(crate) fn all_parts(
     alloc: Global,
     written: &Stream,
     parts: PartChoice,
-) -> Result<Option<u16>, NoMemory>
+) -> Result<Result<usize, u16>, NoMemory>
     requires range { StreamInRange written.now }
     requires totals { totals_fault written.now ≡ None }
     requires whole { (t : ℕ) → t < tile_number written.now.siz → IsWhole written.now t }
-    ensures { IfOk result (λ first. MatchOption first ((t : ℕ) → t < tile_number written.now.siz → HasFewParts parts written.now t) (λ t. IsPartedAt parts written.now t)) }
+    ensures { IfOk result (λ r. MatchResult r (λ all. AreAllParts parts written.now all) (λ t. IsPartedAt parts written.now t)) }
 {
     if matches!(parts, PartChoice::None) {
-        return Ok(None);
+        return Ok(Ok(usize::from(written.tile_count())));
     }
     let main = written.main_view(alloc)?;
+    let mut all = 0;
     for tile in 0..written.tile_count() {
-        if has_many(alloc, written, &main, tile, parts)? {
-            return Ok(Some(tile));
+        let count = part_count(alloc, written, &main, tile, parts)?;
+        if count > 255 {
+            return Ok(Err(tile));
         }
+        all += count;
     }
-    Ok(None)
+    Ok(Ok(all))
 }

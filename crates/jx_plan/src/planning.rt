@@ -17,7 +17,7 @@ ghost use Rattle.jx_options.specs.Wanted.{MayBeWanted};
 ghost use Rattle.jx_codeblock.specs.declared.job.Job.{Job as job_asked};
 ghost use Rattle.jx_codeblock.specs.declared.LayerEnd.{LayerEnd};
 
-use crate::counting::{check_parts, plan_headers};
+use crate::counting::{check_written, plan_headers};
 use crate::fitting::check_precincts;
 use crate::{OutStream, PlanFault};
 use jx_base::{Block, Style};
@@ -94,7 +94,7 @@ fn plan_jobs<'a>(
     if let Some(place) = first_crowded(&jobs) {
         return Err(PlanFault::Choice { number: 4, place });
     }
-    match check_parts(alloc, stream, options, layers, &written) {
+    match check_written(alloc, stream, options, layers, &written) {
         Ok(()) => Ok(OutStream {
             stream,
             blocks,
@@ -193,7 +193,10 @@ fn first_serving(planners: &[Box<dyn LayerPlanner>], words: &str) -> Option<usiz
 /// no planner serves the words, or the first that does makes no rule of them; after these nothing was asked. Else limit 7 exactly
 /// where over 2^22 packets would be written, one for each precinct and layer (B.9), with their number. Else choice 4 exactly where
 /// some layer would have over 164 passes of a code-block (B.10.6, Table B.4), at the lowest such block. Else choice 5 exactly where
-/// a tile would have over 255 tile-parts (A.4.2), at the lowest such tile. `NoMemory` where memory is refused.
+/// a tile would have over 255 tile-parts (A.4.2), at the lowest such tile. Else choice 10 at 0 exactly where TLM is asked and there would
+/// be over 2,795,776 tile-parts (A.7.1). Else choice 11 exactly where the input's profile is kept and the file wouldn't have all of it
+/// (A.5.1), at the number of the first condition of profile 3 that fails (`first_unmet`), or at 0 where the profile is another than 0 and
+/// 3. `NoMemory` where memory is refused.
 pub fn plan_served<'a>(
     alloc: Global,
     stream: &'a Stream,

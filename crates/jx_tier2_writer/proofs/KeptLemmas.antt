@@ -1,6 +1,6 @@
 -- The headers that are written are such as a file may be written from, and the file that is written from them has its input's blocks as
 -- they are written, and its meaning.
-use Rattle.std.proofs.Common.{◌≡◌, ◌∙◌, ◌<◌, ◌≤◌, ◌+◌, ◌^◌, ℕ, false, arith, List, [], ◌∷◌, length, map, refl, sym, ap, subst, Option, None, Some}
+use Rattle.std.proofs.Common.{◌≡◌, ◌∙◌, ◌<◌, ◌≤◌, ◌+◌, ◌++◌, ◌^◌, ℕ, false, arith, List, [], ◌∷◌, length, map, refl, sym, ap, subst, Option, None, Some}
 use Rattle.std.proofs.Math.Path.{fun_ext}
 use Rattle.std.specs.List.{All, filter, list_any}
 use Rattle.std.proofs.lemmas.List.Folds.{list_any-append}
@@ -9,6 +9,7 @@ use Rattle.std.specs.Prelude.{slice_get}
 use Rattle.jx_base.specs.declared.names.Band.{Band}
 use Rattle.jx_base.specs.declared.pieces.Block.{Block}
 use Rattle.jx_base.specs.declared.style.Style.{Style}
+use Rattle.jx_base.specs.Joined.{joined}
 use Rattle.jx_base.specs.Sound.{IsSound}
 use Rattle.jx_tier1_specs.specs.declared.coef.Coef.{Coef}
 use Rattle.jx_marker.specs.declared.Cod.{Cod}
@@ -19,7 +20,7 @@ use Rattle.jx_codestream.specs.declared.Stream.{Stream}
 use Rattle.jx_codestream.specs.First.{tile_number}
 use Rattle.jx_codestream.specs.Params.{cod_of, cod_or, header_of, params_of, planes_at, step_of}
 use Rattle.jx_codestream.specs.Shapes.{geometry, shapes_of, tile_at}
-use Rattle.jx_codestream.specs.Spells.{AreSegments}
+use Rattle.jx_codestream.specs.Spells.{AreSegments, TilePart}
 use Rattle.jx_codestream.specs.Tiles.{entry_in, in_slot, or_list}
 use Rattle.jx_codestream.specs.Tiles.{entries_joined}
 use Rattle.jx_tier2_reader.specs.BlockOf.{AreBlocksOf}
@@ -34,19 +35,22 @@ use Rattle.jx_layers.specs.Rule.{Rule}
 use Rattle.jx_options.specs.declared.Marks.{Marks}
 use Rattle.jx_plan.specs.Asides.{is_informational, is_left_out, is_plt}
 use Rattle.jx_plan.specs.Fits.{Fits, first_zero}
-use Rattle.jx_plan.specs.Headers.{HeaderOptions, MayBeInHeaders, cod_written, comp_written, params_written, stream_written, with_layers}
+use Rattle.jx_plan.specs.Headers.{HeaderOptions, MayBeInHeaders, cod_written, comp_written, params_written, rsiz_written, stream_written, with_layers}
 use Rattle.jx_plan.specs.Causes.{IsFree}
 use Rattle.jx_plan.specs.Meaning.{Component, Meaning, Place, component_of, meaning_of, sample_at}
 use Rattle.jx_plan.specs.Plan.{MayBePlanned, headers_with}
 use Rattle.jx_plan.specs.Planned.{IsCrowded, IsFreeBy, MakesLayers, blocks_written, layers_of_rule}
 use Rattle.jx_plan.specs.Standing.{HeadersStand}
 use Rattle.jx_options.specs.Wanted.{MayBeWanted, Wanted}
+use Rattle.jx_tier2_writer.specs.Index.{index_of}
 use Rattle.jx_tier2_writer.specs.Kept.{IsKeptIn}
 use Rattle.jx_tier2_writer.specs.Ready.{AllShort, AreReady, IsTileReady, stream_read}
 use Rattle.jx_tier2_writer.specs.Lengths.{numbered}
 use Rattle.jx_tier2_writer.specs.SameHeaders.{HasHeadersOf, IsWithLengths}
+use Rattle.jx_tier2_writer.specs.Strict.{IsStrict}
 use Rattle.jx_tier2_writer.specs.TileParts.{IsOutput}
-use Rattle.jx_tier2_writer.proofs.OutputLemmas.{output_formed, output_gathered, output_headers, output_read, output_strict}
+use Rattle.jx_tier2_writer.proofs.OutputLemmas.{output_formed, output_gathered, output_headers, output_read, strict_with}
+use Rattle.jx_tier2_writer.proofs.IndexLemmas.{index_held, index_is, tlm_informs}
 use Rattle.jx_plan.proofs.ReadBackLemmas.{comps_are as comps_written}
 use Rattle.jx_plan.proofs.PlanLemmas.{style_few}
 
@@ -91,7 +95,7 @@ pub record LayerLaws : Type 0 where
       → IsAsked b (style_for style b) (ends_of rule layers blocks number b)
   pub final : (asked : Option Style) (ends : List LayerEnd) (b : Block) (layer : ℕ) → IsAsked b (style_for asked b) ends → is_wrong asked b ≡ false → HasFirstLayers asked ends b layer
 
-siz_written : (a : HeaderOptions) (s : Stream) → (stream_written a s).siz ≡ record s.siz { rsiz = 0 }
+siz_written : (a : HeaderOptions) (s : Stream) → (stream_written a s).siz ≡ record s.siz { rsiz = rsiz_written a.wanted.rsiz s.siz.rsiz }
 unfolding stream_written
 siz_written a s = refl
 
@@ -106,9 +110,9 @@ means siz other c d e f sample one two three =
     let C : (ℕ → ℕ → ℕ → Band → ℕ × ℕ) → Meaning = λ z. record { siz = record other { rsiz = 0 }; component = d; step = z; sample = sample } in
     ap A one ∙ ap B two ∙ ap C three
 
-same_meaning : (s other : Stream) (blocks : List Block) → HasHeadersOf s other → meaning_of other blocks ≡ meaning_of s blocks
+same_meaning : (index : List Segment) (s other : Stream) (blocks : List Block) → HasHeadersOf index s other → meaning_of other blocks ≡ meaning_of s blocks
 unfolding meaning_of
-same_meaning s other blocks headers =
+same_meaning index s other blocks headers =
     means other.siz s.siz (λ t c. component_of (params_of other t c)) (λ t c. component_of (params_of s t c)) (step_of other) (step_of s) (sample_at blocks) headers.siz
     (fun_ext (λ t. fun_ext (λ c. ap component_of (headers.params t c))))
     (fun_ext (λ t. fun_ext (λ c. fun_ext (λ r. fun_ext (λ band. headers.step t c r band)))))
@@ -171,6 +175,7 @@ module _ (laws : HeaderLaws) (w : Wanted) (layers : ℕ) (s : Stream) (some : 1 
         enough = written.entries;
         planes = written.planes;
         totals = laws.limits a s free.fits stand none free.few;
+        index = free.entries;
       }
 
 all_at : (P : Block → Type 0) (blocks : List Block) (k : ℕ) (b : Block) → All P blocks → slice_get blocks k ≡ Some b → P b
@@ -193,7 +198,11 @@ module _ (laws : HeaderLaws) (keep : KeepLaws) (told : LayerLaws) (w : Wanted) (
   written = headers_with w layers before
 
   abbrev after : Stream
-  after = stream_read written is.parts
+  after = stream_read marks written is.parts
+
+  -- the index, where it is asked
+  abbrev index : List Segment
+  index = index_of marks (joined is.parts 0 (tile_number written.siz))
 
   abbrev anew : List Block
   anew = blocks_written w rule before blocks
@@ -217,7 +226,7 @@ module _ (laws : HeaderLaws) (keep : KeepLaws) (told : LayerLaws) (w : Wanted) (
   sound : All IsSound anew
   sound = keep.sound w rule before blocks makes.0 sound_read free.whole
 
-  headers : HasHeadersOf written after
+  headers : HasHeadersOf index written after
   headers = output_headers marks written anew out is ready all_short
 
   -- the layers that the rule gives a block may be asked of it
@@ -234,21 +243,29 @@ module _ (laws : HeaderLaws) (keep : KeepLaws) (told : LayerLaws) (w : Wanted) (
   left_header t lt =
       left_with (header_of written t) (header_of after t) (headers.header t (omega (arith, lt, laws.tiles b before))) (laws.left_header b before t stand (omega (arith, lt, stand.count)))
 
+  strict : (is : IsStrict marks out after) × (is.front ≡ written.main)
+  strict = strict_with marks written anew out is ready all_short named sound
+
+  informs : filter is_informational (written.main ++ index) ≡ filter is_informational written.main
+  informs =
+      let parts : List TilePart = joined is.parts 0 (tile_number written.siz) in
+      ap (λ (z : List Segment). filter is_informational (written.main ++ z)) (index_is marks parts) ∙ tlm_informs written.main (index_held marks parts)
+
   kept : IsKeptIn w rule before after blocks out
   kept = record {
     read = output_read marks written anew out is ready all_short;
     gathered = output_gathered marks written anew out is ready all_short named sound;
     formed = output_formed marks written anew out is ready all_short named sound;
-    strict = output_strict marks written anew out is ready all_short named sound;
-    left_main = ap (λ (z : List Segment). list_any is_left_out z) headers.main ∙ laws.left_main b before stand;
+    strict = strict.0;
+    left_main = ap (λ (z : List Segment). list_any is_left_out z) strict.1 ∙ laws.left_main b before stand;
     left_header = left_header;
-    informs = ap (λ (z : List Segment). filter is_informational z) headers.main ∙ laws.informs b before stand;
+    informs = ap (λ (z : List Segment). filter is_informational z) headers.main ∙ informs ∙ laws.informs b before stand;
     siz = headers.siz ∙ siz_written b before;
     params = λ t c. headers.params t c ∙ keep.params b before t c stand;
     steps = λ t c r band. headers.step t c r band ∙ keep.steps b before t c r band stand;
     planes = λ t c r band. headers.planes t c r band ∙ keep.planes b before t c r band stand;
     places = λ t. headers.places t ∙ keep.places b before t stand;
-    meaning = same_meaning written after anew headers ∙ keep.meaning w rule before blocks makes.0 stand sound_read free.whole;
+    meaning = same_meaning index written after anew headers ∙ keep.meaning w rule before blocks makes.0 stand sound_read free.whole;
     first = first_layers;
   }
 

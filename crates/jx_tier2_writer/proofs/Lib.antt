@@ -4,11 +4,14 @@ mod HeldLemmas
 mod FewLemmas
 mod TurnLemmas
 mod PlaceLemmas
-mod MadeLemmas
+pub mod MadeLemmas
 mod SameLemmas
+mod IndexLemmas
 mod CoverLemmas
 mod ReadyLemmas
 mod ReadLemmas
+mod IndexedLemmas
+mod FindLemmas
 mod TellLemmas
 mod WholeLemmas
 mod StrictLemmas

@@ -29,7 +29,7 @@ use Rattle.jx_codestream.proofs.ShapeLemmas.{siz_is}
 use Rattle.jx_tile.specs.Covered.{IsListOf}
 use Rattle.jx_tier2_reader.specs.Written.{AreFilled, Packets, bytes_from, packets_in}
 use Rattle.jx_tier2_writer.specs.Lengths.{numbered}
-use Rattle.jx_tier2_writer.specs.Ready.{AllShort, AreReady, AreShort, stream_read}
+use Rattle.jx_tier2_writer.specs.Ready.{AllShort, AreReady, AreShort, stream_with}
 use Rattle.jx_options.specs.declared.Marks.{Marks}
 use Rattle.jx_tier2_writer.specs.TileParts.{packet_length, packets_of, written_part_header, parts_with, tile_part, tile_parts}
 use Rattle.jx_tier2_writer.specs.SameHeaders.{IsWithLengths}
@@ -104,16 +104,16 @@ entries_are main own header none none_main alike =
 module _ (m : Marks) (s : Stream) (blocks : List Block) (b : List ℕ) (parts : ℕ → List TilePart) (groups : ℕ → List (List PacketName)) (ready : AreReady m s)
     (cut : (t : ℕ) → t < tile_number s.siz → IsCutInto m s blocks t (parts t) (groups t)) (short : AllShort parts (tile_number s.siz))
     (whole : b ≡ file_bytes s.siz s.main (joined parts 0 (tile_number s.siz)) []) where
-  abbrev comps : ℕ
+  abbrev pub comps : ℕ
   comps = length s.siz.comps
 
-  abbrev tiles : ℕ
+  abbrev pub tiles : ℕ
   tiles = tile_number s.siz
 
-  abbrev start : ℕ
+  abbrev pub start : ℕ
   start = first_sot s.siz s.main
 
-  abbrev all_parts : List TilePart
+  abbrev pub all_parts : List TilePart
   all_parts = joined parts 0 tiles
 
   abbrev all_placed : List PlacedPart
@@ -121,7 +121,7 @@ module _ (m : Marks) (s : Stream) (blocks : List Block) (b : List ℕ) (parts : 
 
   -- the stream that is read
   abbrev pub it : Stream
-  it = stream_read s parts
+  it = stream_with s all_parts
 
   abbrev made : ℕ → List TilePart
   made t = tile_parts m s blocks t (groups t)
@@ -133,7 +133,7 @@ module _ (m : Marks) (s : Stream) (blocks : List Block) (b : List ℕ) (parts : 
   parts_count t lt = ap (λ (z : List TilePart). length z) (cut t lt).are ∙ made_count t
 
   -- each tile has its tile-parts
-  all_of : AllOf comps parts tiles
+  pub all_of : AllOf comps parts tiles
   all_of t lt =
       let is = cut t lt in
       let here : AreShort (made t) = subst (λ (z : List TilePart). AreShort z) is.are (short t lt) in
@@ -242,7 +242,7 @@ module _ (m : Marks) (s : Stream) (blocks : List Block) (b : List ℕ) (parts : 
   }
 
   -- ---- the tiles' data
-  parts_there : drop start b ≡ flat_map (part_bytes comps) all_parts ++ (spelling 1 segment.Eoc ++ [])
+  pub parts_there : drop start b ≡ flat_map (part_bytes comps) all_parts ++ (spelling 1 segment.Eoc ++ [])
   parts_there =
       let siz : List ℕ = spelling 1 (segment.Siz s.siz) in
       let main : List ℕ = all_bytes comps s.main in

@@ -1,4 +1,4 @@
--- A stream with the same headers, but for PLT segments, has the same parameters, geometry, packets and blocks.
+-- A stream with the same headers, but for PLT and TLM segments, has the same parameters, geometry, packets and blocks.
 use Rattle.std.proofs.Common.{◌≡◌, ◌∙◌, ◌+◌, ◌*◌, ◌^◌, ℕ, nat_lt, arith, List, map, refl, sym, ap, subst, Option}
 use Rattle.std.proofs.Math.Path.{fun_ext}
 use Rattle.std.specs.List.{flat_map, range_with_len, slice_get}
@@ -8,6 +8,7 @@ use Rattle.jx_base.specs.declared.names.BlockName.{BlockName}
 use Rattle.jx_base.specs.declared.pieces.Block.{Block}
 use Rattle.jx_base.specs.Bands.{bands_at}
 use Rattle.jx_base.specs.Joined.{sum_below}
+use Rattle.jx_marker.specs.declared.Segment.{Segment}
 use Rattle.jx_geom.specs.declared.shape.CompShape.{CompShape}
 use Rattle.jx_geom.specs.Counts.{tile_precincts}
 use Rattle.jx_geom.specs.Rects.{block_rect, tile_rect}
@@ -22,7 +23,7 @@ use Rattle.jx_tier2_reader.proofs.AnotherLemmas.{blocks_of_other}
 use Rattle.jx_base.specs.Pieces.{PieceValue}
 use Rattle.jx_options.specs.declared.Marks.{Marks}
 use Rattle.jx_tier2_writer.specs.TileParts.{packet_of, packets_of, state_before}
-use Rattle.jx_tier2_writer.proofs.AlikeLemmas.{AreAlike, params_alike, planes_alike, shapes_alike, step_alike}
+use Rattle.jx_tier2_writer.proofs.AlikeLemmas.{AreAlike, params_alike, params_main, planes_alike, planes_main, shapes_alike, shapes_main, step_alike, step_main}
 use Rattle.jx_packet_header.specs.Packet.{State}
 use Rattle.jx_packet_header.specs.Written.{Leafed}
 use Rattle.jx_progression.specs.declared.names.PacketName.{PacketName}
@@ -38,15 +39,15 @@ use Rattle.jx_tier2_reader.specs.BlockOf.{AreBlocksOf, pieces_at}
 use Rattle.jx_tile.specs.Cells.{precinct_bands, sizes_of}
 use Rattle.jx_tier2_reader.specs.Carries.{block_in, carried_bytes, pieces_of}
 
-abbrev pub with_tiles : Stream → List Tile → Stream
-with_tiles s tiles = record { siz = s.siz; main = s.main; tiles = tiles }
+abbrev pub with_headers : Stream → List Segment → List Tile → Stream
+with_headers s main tiles = record { siz = s.siz; main = main; tiles = tiles }
 
-module _ (s : Stream) (tiles : List Tile) (alike : (t : ℕ) → AreAlike (header_in (slice_get tiles t)) (header_of s t)) where
+module _ (s : Stream) (main : List Segment) (tiles : List Tile) (same : AreAlike main s.main) (alike : (t : ℕ) → AreAlike (header_in (slice_get tiles t)) (header_of s t)) where
   abbrev it : Stream
-  it = with_tiles s tiles
+  it = with_headers s main tiles
 
   pub params_same : (t c : ℕ) → params_of it t c ≡ params_of s t c
-  params_same t c = params_alike (header_in (slice_get tiles t)) (header_of s t) (alike t) s.main c
+  params_same t c = params_alike (header_in (slice_get tiles t)) (header_of s t) (alike t) main c ∙ params_main main s.main same (header_of s t) c
 
   pub layers_same : (t : ℕ) → layers_of it t ≡ layers_of s t
   layers_same t = ap (λ (p : Params). p.layers) (params_same t 0)
@@ -55,13 +56,13 @@ module _ (s : Stream) (tiles : List Tile) (alike : (t : ℕ) → AreAlike (heade
   style_same t c = ap (λ (p : Params). p.style.bits) (params_same t c)
 
   pub planes_same : (t c r : ℕ) (b : Band) → planes_at it t c r b ≡ planes_at s t c r b
-  planes_same t c r b = planes_alike (header_in (slice_get tiles t)) (header_of s t) (alike t) s.main c r b
+  planes_same t c r b = planes_alike (header_in (slice_get tiles t)) (header_of s t) (alike t) main c r b ∙ planes_main main s.main same (header_of s t) c r b
 
   pub step_same : (t c r : ℕ) (b : Band) → step_of it t c r b ≡ step_of s t c r b
-  step_same t c r b = step_alike (header_in (slice_get tiles t)) (header_of s t) (alike t) s.main c r b
+  step_same t c r b = step_alike (header_in (slice_get tiles t)) (header_of s t) (alike t) main c r b ∙ step_main main s.main same (header_of s t) c r b
 
   shapes_same_at : (t : ℕ) → shapes_of it t ≡ shapes_of s t
-  shapes_same_at t = shapes_alike (header_in (slice_get tiles t)) (header_of s t) (alike t) s.siz s.main
+  shapes_same_at t = shapes_alike (header_in (slice_get tiles t)) (header_of s t) (alike t) s.siz main ∙ shapes_main main s.main same s.siz (header_of s t)
 
   pub shapes_same : shapes_of it ≡ shapes_of s
   shapes_same = fun_ext shapes_same_at

@@ -11,7 +11,7 @@ use Rattle.jx_codestream.specs.Shapes.{geometry, shapes_of}
 use Rattle.jx_tier2_reader.specs.Gathered.{IsGathered}
 use Rattle.jx_tier2_reader.specs.WellFormed.{IsWellFormed}
 use Rattle.jx_plan.specs.Asides.{is_informational, is_left_out}
-use Rattle.jx_plan.specs.Headers.{comp_written, params_written, with_layers}
+use Rattle.jx_plan.specs.Headers.{comp_written, params_written, rsiz_written, with_layers}
 use Rattle.jx_plan.specs.Meaning.{meaning_of}
 use Rattle.jx_codeblock.specs.FirstLayers.{HasFirstLayers}
 use Rattle.jx_layers.specs.Layers.{ends_of}
@@ -28,12 +28,13 @@ pub record IsKeptIn (w : Wanted) (rule : Rule) (before after : Stream) (blocks :
   pub read : IsRead out after
   pub gathered : IsGathered out after (blocks_written w rule before blocks)
   pub formed : IsWellFormed out
-  pub strict : IsStrict w.marks.plt out after
-  -- no POC, TLM, PLM or skipped marker, in the main header and in each tile's; the main header's CRG and COM, in their order
-  pub left_main : list_any is_left_out after.main ≡ false
+  pub strict : IsStrict w.marks out after
+  -- no POC, TLM, PLM or skipped marker, in the main header before its index and in each tile's; the main header's CRG and COM, in their
+  -- order
+  pub left_main : list_any is_left_out strict.front ≡ false
   pub left_header : (t : ℕ) → t < tile_number before.siz → list_any is_left_out (header_of after t) ≡ false
   pub informs : filter is_informational after.main ≡ filter is_informational before.main
-  pub siz : after.siz ≡ record before.siz { rsiz = 0 }
+  pub siz : after.siz ≡ record before.siz { rsiz = rsiz_written w.rsiz before.siz.rsiz }
   pub params : (t c : ℕ) → params_of after t c ≡ params_written (with_layers w (layers_of_rule rule before blocks)) (params_of before t c)
   pub steps : (t c r : ℕ) (band : Band) → step_of after t c r band ≡ step_of before t c r band
   pub planes : (t c r : ℕ) (band : Band) → planes_at after t c r band ≡ planes_at before t c r band

@@ -1,4 +1,5 @@
 pub mod Assembled
+pub mod Index
 pub mod TileParts
 pub mod Ready
 pub mod Tile

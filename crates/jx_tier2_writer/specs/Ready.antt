@@ -1,5 +1,5 @@
--- Headers that a file may be written from, and the stream that is read from the file again: the same headers, with the tile-parts'
--- PLT segments, places and data (ITU-T T.800, A.3, A.4 and A.6).
+-- Headers that a file may be written from, and the stream that is read from the file again: the same headers, with the index of the
+-- tile-parts where that is asked, and the tile-parts' PLT segments, places and data (ITU-T T.800, A.3, A.4, A.6 and A.7).
 use Rattle.std.specs.Prelude.{◌≡◌, ◌<◌, ◌^◌, ℕ, false, List, [], ◌∷◌, length, None, find}
 use Rattle.jx_base.specs.Joined.{joined}
 use Rattle.jx_marker.specs.declared.Cod.{Cod}
@@ -18,7 +18,8 @@ use Rattle.jx_tile.specs.Covered.{IsListOf}
 use Rattle.jx_tile.specs.Totals.{totals_fault}
 use Rattle.jx_tier2_writer.specs.Told.{has_lengths}
 use Rattle.jx_options.specs.declared.Marks.{Marks}
-use Rattle.jx_plan.specs.Groups.{HasFewParts}
+use Rattle.jx_plan.specs.Groups.{HasFewEntries, HasFewParts}
+use Rattle.jx_tier2_writer.specs.Index.{indexed}
 
 -- what SOP and EPH a tile's COD, or else the main one, announces
 abbrev pub cod_at : Stream → ℕ → Cod
@@ -61,6 +62,8 @@ pub record AreReady (m : Marks) (s : Stream) : Type 0 where
   pub planes : planes_fault s.main (length s.siz.comps) s.tiles ≡ None
   -- limits 5 and 6
   pub totals : totals_fault s ≡ None
+  -- A.7.1: Ztlm has one byte
+  pub index : HasFewEntries m s
 
 -- each tile-part has a length of 32 bits
 abbrev pub AreShort : List TilePart → Type 0
@@ -78,5 +81,5 @@ stream_with s parts = record {
   tiles = tiles_of s.main (placed (length s.siz.comps) (first_sot s.siz s.main) parts) (tile_number s.siz);
 }
 
-abbrev pub stream_read : Stream → (ℕ → List TilePart) → Stream
-stream_read s parts = stream_with s (joined parts 0 (tile_number s.siz))
+abbrev pub stream_read : Marks → Stream → (ℕ → List TilePart) → Stream
+stream_read m s parts = stream_with (indexed m s (joined parts 0 (tile_number s.siz))) (joined parts 0 (tile_number s.siz))

@@ -1,5 +1,6 @@
--- A stream that says what another says: its tiles have the headers of the other's, with PLT segments behind them, so all parameters,
--- steps, planes, places and entries are the same (ITU-T T.800, A.6, A.7.3, B.3 and E.1).
+-- A stream that says what another says: its tiles have the headers of the other's, with PLT segments behind them, and its main header
+-- is the other's with an index behind it, or without; so all parameters, steps, planes, places and entries are the same
+-- (ITU-T T.800, A.6, A.7, B.3 and E.1).
 use Rattle.std.specs.Prelude.{◌≡◌, ◌<◌, ℕ, List, [], ◌++◌}
 use Rattle.jx_base.specs.declared.names.Band.{Band}
 use Rattle.jx_marker.specs.declared.Segment.{Segment}
@@ -13,9 +14,9 @@ use Rattle.jx_tier2_writer.specs.Lengths.{numbered}
 abbrev pub IsWithLengths : List Segment → List Segment → Type 0
 IsWithLengths own header = (held : List (List ℕ)) × (header ≡ own ++ numbered 0 held)
 
-pub record HasHeadersOf (s other : Stream) : Type 0 where
+pub record HasHeadersOf (index : List Segment) (s other : Stream) : Type 0 where
   pub siz : other.siz ≡ s.siz
-  pub main : other.main ≡ s.main
+  pub main : other.main ≡ s.main ++ index
   pub header : (t : ℕ) → t < tile_number s.siz → IsWithLengths (header_of s t) (header_of other t)
   -- no COM but in the first tile-part of a tile
   pub notes : (t : ℕ) → t < tile_number s.siz → (tile_at other t).notes ≡ []

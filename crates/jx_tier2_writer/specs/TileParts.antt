@@ -21,6 +21,7 @@ use Rattle.jx_tier2_reader.specs.Written.{WrittenPacket, Packets, packet_bytes, 
 use Rattle.jx_tile.specs.Covered.{IsListOf}
 use Rattle.jx_options.specs.declared.Marks.{Marks}
 use Rattle.jx_plan.specs.Groups.{groups_of}
+use Rattle.jx_tier2_writer.specs.Index.{index_of}
 use Rattle.jx_tier2_writer.specs.Lengths.{length_segments}
 
 -- a packet of a tile: its one header, for the blocks of its precinct, and the bytes of their pieces in its layer
@@ -74,8 +75,8 @@ pub record AreTilePartsOf (m : Marks) (s : Stream) (blocks : List Block) (t : �
   pub order : IsListOf s t names
   pub are : parts ≡ tile_parts m s blocks t (groups_of m.parts names)
 
--- the whole file
+-- the whole file, whose main header ends with the index of its tile-parts where that is asked
 pub record IsOutput (m : Marks) (s : Stream) (blocks : List Block) (b : List ℕ) : Type 0 where
   pub parts : ℕ → List TilePart
   pub are : (t : ℕ) → t < tile_number s.siz → AreTilePartsOf m s blocks t (parts t)
-  pub bytes : b ≡ file_bytes s.siz s.main (joined parts 0 (tile_number s.siz)) []
+  pub bytes : b ≡ file_bytes s.siz (s.main ++ index_of m (joined parts 0 (tile_number s.siz))) (joined parts 0 (tile_number s.siz)) []

@@ -1,9 +1,10 @@
 //! Laws over the file that is written from headers and code-blocks. The functions do nothing but cite laws of the crates below:
 //! their contracts carry the laws.
 
-ghost use Rattle.std.specs.Prelude.{◌≡◌, ◌<◌, ◌≤◌, ◌^◌, ℕ, List, None, false, length};
-ghost use Rattle.std.specs.List.{All, flat_map};
+ghost use Rattle.std.specs.Prelude.{◌≡◌, ◌<◌, ◌≤◌, ◌+◌, ◌^◌, ℕ, List, None, Some, drop, false, length, map, slice_get, take, true};
+ghost use Rattle.std.specs.List.{All, flat_map, list_any};
 ghost use Rattle.jx_base.specs.declared.pieces.Block.{Block};
+ghost use Rattle.jx_base.specs.Joined.{joined};
 ghost use Rattle.jx_base.specs.Sound.{IsSound};
 ghost use Rattle.jx_geom.specs.Geometry.{GeometryInRange};
 ghost use Rattle.jx_marker.specs.Ranges.{InRange};
@@ -13,7 +14,7 @@ ghost use Rattle.jx_codestream.specs.First.{tile_number};
 ghost use Rattle.jx_codestream.specs.InRange.{StreamInRange};
 ghost use Rattle.jx_codestream.specs.Read.{IsRead};
 ghost use Rattle.jx_codestream.specs.Shapes.{geometry};
-ghost use Rattle.jx_codestream.specs.Spells.{TilePart};
+ghost use Rattle.jx_codestream.specs.Spells.{TilePart, first_sot, part_bytes};
 ghost use Rattle.jx_tier2_reader.specs.Accepted.{IsAccepted};
 ghost use Rattle.jx_tier2_reader.specs.Another.{HaveSameBlocks};
 ghost use Rattle.jx_tier2_reader.specs.BlockOf.{AreBlocksOf};
@@ -21,6 +22,7 @@ ghost use Rattle.jx_tile.specs.Covered.{IsListOf, IsWhole};
 ghost use Rattle.jx_tier2_reader.specs.Gathered.{IsGathered};
 ghost use Rattle.jx_tile.specs.Totals.{totals_fault};
 ghost use Rattle.jx_tier2_reader.specs.WellFormed.{IsWellFormed};
+ghost use Rattle.jx_tier2_writer.specs.Index.{entries_told, entry_of, index_of, length_before, length_in};
 ghost use Rattle.jx_tier2_writer.specs.Kept.{IsKeptIn};
 ghost use Rattle.jx_tier2_writer.specs.Lengths.{length_bytes, length_segments};
 ghost use Rattle.jx_tier2_writer.specs.Ready.{AllShort, AreReady, HasList, stream_read};
@@ -29,6 +31,7 @@ ghost use Rattle.jx_tier2_writer.specs.Strict.{IsStrict};
 ghost use Rattle.jx_tier2_writer.specs.Told.{length_total, lengths_from};
 ghost use Rattle.jx_options.specs.declared.Marks.{Marks};
 ghost use Rattle.jx_layers.specs.Rule.{Rule};
+ghost use Rattle.jx_plan.specs.Asides.{is_left_out};
 ghost use Rattle.jx_plan.specs.Causes.{IsFree};
 ghost use Rattle.jx_codeblock.specs.Written.{is_wrong};
 ghost use Rattle.jx_plan.specs.Plan.{MayBePlanned, headers_with};
@@ -48,23 +51,23 @@ use jx_plan::laws::{
 /// rule from 1 to 24 is violated, and neither limit 3 nor 4 is passed (T.800, A.2 to A.6).
 pub fn output_is_spelled()
     ensures { (m : Marks) (s : Stream) (blocks : List Block) (b : List ℕ) (out : IsOutput m s blocks b) → AreReady m s
-        → AllShort out.parts (tile_number s.siz) → IsRead b (stream_read s out.parts) }
+        → AllShort out.parts (tile_number s.siz) → IsRead b (stream_read m s out.parts) }
 {}
 
 /// This stream says what the headers say that the file was written from: each tile's header has PLT segments behind it at most, so
 /// all parameters, steps, planes, places and entries are the same.
 pub fn output_has_headers()
     ensures { (m : Marks) (s : Stream) (blocks : List Block) (b : List ℕ) (out : IsOutput m s blocks b) → AreReady m s
-        → AllShort out.parts (tile_number s.siz) → HasHeadersOf s (stream_read s out.parts) }
+        → AllShort out.parts (tile_number s.siz) → HasHeadersOf (index_of m (joined out.parts 0 (tile_number s.siz))) s (stream_read m s out.parts) }
 {}
 
 /// Its code-blocks are just those that it was written from, and it is well-formed: no rule from 25 to 31 is violated; nor is limit 5
 /// or 6 passed.
 pub fn output_is_gathered()
     ensures blocks { (m : Marks) (s : Stream) (blocks : List Block) (b : List ℕ) (out : IsOutput m s blocks b) → AreReady m s
-        → AllShort out.parts (tile_number s.siz) → AreBlocksOf s blocks → All IsSound blocks → IsGathered b (stream_read s out.parts) blocks }
+        → AllShort out.parts (tile_number s.siz) → AreBlocksOf s blocks → All IsSound blocks → IsGathered b (stream_read m s out.parts) blocks }
     ensures accepted { (m : Marks) (s : Stream) (blocks : List Block) (b : List ℕ) (out : IsOutput m s blocks b) → AreReady m s
-        → AllShort out.parts (tile_number s.siz) → AreBlocksOf s blocks → All IsSound blocks → IsAccepted b (stream_read s out.parts) }
+        → AllShort out.parts (tile_number s.siz) → AreBlocksOf s blocks → All IsSound blocks → IsAccepted b (stream_read m s out.parts) }
     ensures formed { (m : Marks) (s : Stream) (blocks : List Block) (b : List ℕ) (out : IsOutput m s blocks b) → AreReady m s
         → AllShort out.parts (tile_number s.siz) → AreBlocksOf s blocks → All IsSound blocks → IsWellFormed b }
 {}
@@ -74,7 +77,7 @@ pub fn output_is_gathered()
 pub fn output_keeps_blocks()
     ensures { (m : Marks) (s input : Stream) (blocks : List Block) (a b : List ℕ) (out : IsOutput m s blocks b) → IsRead a input → length a ≤ 2 ^ 28 → totals_fault input ≡ None
         → IsGathered a input blocks → HaveSameBlocks input s → AreReady m s → AllShort out.parts (tile_number s.siz)
-        → IsGathered b (stream_read s out.parts) blocks }
+        → IsGathered b (stream_read m s out.parts) blocks }
 {}
 
 /// A written file keeps to more than a reader asks for: each tile-part tells its tile's number of tile-parts, SOP and EPH stand with
@@ -82,7 +85,29 @@ pub fn output_keeps_blocks()
 /// the file.
 pub fn output_is_strict()
     ensures { (m : Marks) (s : Stream) (blocks : List Block) (b : List ℕ) (out : IsOutput m s blocks b) → AreReady m s
-        → AllShort out.parts (tile_number s.siz) → AreBlocksOf s blocks → All IsSound blocks → IsStrict m.plt b (stream_read s out.parts) }
+        → AllShort out.parts (tile_number s.siz) → AreBlocksOf s blocks → All IsSound blocks → IsStrict m b (stream_read m s out.parts) }
+{}
+
+/// The index of a written file, as it is read from its main header, names each of its tile-parts in their order by the tile and Psot (`told`),
+/// where it is asked and nothing of what isn't written stands in the headers. A tile-part stands behind the main header and as many bytes as those
+/// before it have together (`stand`), so a reader that takes the index at its word finds each (T.800, A.7.1).
+pub fn index_finds_parts()
+    ensures told { (m : Marks) (s : Stream) (blocks : List Block) (b : List ℕ) (out : IsOutput m s blocks b) → AreReady m s
+        → AllShort out.parts (tile_number s.siz) → m.tlm ≡ true → list_any is_left_out s.main ≡ false
+        → entries_told (stream_read m s out.parts).main ≡ map entry_of (joined out.parts 0 (tile_number s.siz)) }
+    ensures stand { (m : Marks) (s : Stream) (blocks : List Block) (b : List ℕ) (out : IsOutput m s blocks b) → AreReady m s
+        → AllShort out.parts (tile_number s.siz) → (i : ℕ) (p : TilePart) → slice_get (joined out.parts 0 (tile_number s.siz)) i ≡ Some p
+        → take p.sot.psot (drop (first_sot s.siz (stream_read m s out.parts).main + length_before i (map entry_of (joined out.parts 0 (tile_number s.siz)))) b)
+            ≡ part_bytes (length s.siz.comps) p }
+{}
+
+/// What the index tells of a tile's tile-parts are the tile and how many bytes each has (`lengths`); where it is asked it has room for
+/// those of all tiles (`few`).
+pub fn entries_are_lengths()
+    ensures lengths { (m : Marks) (s : Stream) (blocks : List Block) (t : ℕ) (parts : List TilePart) → AreTilePartsOf m s blocks t parts
+        → map entry_of parts ≡ map (length_in t) (map (part_bytes (length s.siz.comps)) parts) }
+    ensures few { (m : Marks) (s : Stream) (blocks : List Block) (b : List ℕ) (out : IsOutput m s blocks b) → AreReady m s → m.tlm ≡ true
+        → length (map entry_of (joined out.parts 0 (tile_number s.siz))) ≤ 2795776 }
 {}
 
 /// Headers that a file may be written from are within the ranges that geometry and packets ask for; each of their tiles has an entry

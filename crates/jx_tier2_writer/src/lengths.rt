@@ -76,7 +76,7 @@ fn is_byte(byte: u8)
 {}
 
 /// Says so of all.
-fn are_bytes(bytes: &[u8])
+pub(crate) fn are_bytes(bytes: &[u8])
     ensures { AreBytes bytes.now }
 {
     for byte in bytes {

@@ -6,6 +6,7 @@ mod assemble;
 mod block_parts;
 mod entries;
 mod front;
+mod index;
 pub mod laws;
 mod leaf;
 mod lengths;
@@ -22,6 +23,7 @@ mod tile_out;
 mod tile_part;
 mod whole;
 
+pub use index::{PartLength, index_bytes};
 pub use planned::{assemble_tile, assemble_tile_with, main_header, main_view, pack_tile};
 pub use tile::AssembleFault;
 pub use tile_out::TileOut;
