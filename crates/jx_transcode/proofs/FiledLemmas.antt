@@ -1,5 +1,5 @@
 -- A codestream that is written to a file: what stands under its name.
-use Rattle.std.proofs.Common.{◌≡◌, ◌∙◌, ℕ, true, List, IsTrue, ap, inl, inr, refl, sym, subst}
+use Rattle.std.proofs.Common.{◌≡◌, ◌∙◌, ℕ, true, List, IsTrue, Err, IsErrOf, ap, inl, inr, refl, sym, subst}
 use Rattle.jx_io.specs.Device.{Meaning, after_create, after_finish, after_write}
 use Rattle.jx_io.specs.declared.refused.Refused.{Refused}
 use Rattle.jx_plan.specs.Plan.{Plan}
@@ -110,3 +110,6 @@ file_unmeasured p name halt.NoMemory m asked free = nothing_begun p name m
 
 pub unmeasured_unfailed : (p : Plan) (h : Halt) → IsUnmeasured p h → h ≡ halt.Failed → ⊥
 unmeasured_unfailed p h of failed = subst (IsUnmeasured p) failed of
+
+pub unmeasured_cause : {T : Type 0} (p : Plan) (h : Halt) (X : Type 0) → IsUnmeasured p h → IsErrOf {T = T} (Err h) halt.Failed → X
+unmeasured_cause p h X of failed = absurd (unmeasured_unfailed p h of (let is : h ≡ halt.Failed = cc in is))

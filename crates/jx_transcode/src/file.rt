@@ -83,8 +83,8 @@ fn write_whole<F: Files>(
         Err(refused) => return Err(halt_of(refused)),
     }
     match write_held(files, head, held) {
-        Ok(bytes) => match files.finish() {
-            Ok(()) => Ok(bytes),
+        Ok(count) => match files.finish() {
+            Ok(()) => Ok(count),
             Err(refused) => Err(halt_of(refused)),
         },
         Err(halt) => Err(halt),

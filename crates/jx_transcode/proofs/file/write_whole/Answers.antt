@@ -28,7 +28,7 @@ returns-in-Err-clause-other g c = c.create.ensures.other
 
 pub returns-in-Ok-finish-clause-ok : goal.returns-in-Ok-finish-clause-ok
 returns-in-Ok-finish-clause-ok g c =
-    file_made c.args.making.now c.args.to.now c.args.head.now c.in-Ok-write_held.bytes (g.F.Files.meaning c.args.files.now) (g.F.Files.meaning c.create.new.self) (g.F.Files.meaning c.write_held.new.writer)
+    file_made c.args.making.now c.args.to.now c.args.head.now c.in-Ok-write_held.count (g.F.Files.meaning c.args.files.now) (g.F.Files.meaning c.create.new.self) (g.F.Files.meaning c.write_held.new.writer)
     (g.F.Files.meaning c.finish.new.self) c.requires.head c.in-Ok-create.ensures.ok (c.in-Ok-write_held.ensures.ok c.args.making.now c.requires.held) (ap (λ (d : Device). d.told) c.write_held.ensures.other) c.in-Ok-finish.ensures.ok
 
 pub returns-in-Ok-finish-clause-rose : goal.returns-in-Ok-finish-clause-rose
@@ -40,7 +40,7 @@ returns-in-Ok-finish-clause-other g c = c.finish.ensures.other ∙ ap (λ (d : D
 pub returns-in-Ok-write_held-clause-err : goal.returns-in-Ok-write_held-clause-err
 returns-in-Ok-write_held-clause-err g c = rw c.in-Err-finish.ensures.err
     (begun_at c.args.making.now c.args.to.now c.args.head.now (g.F.Files.meaning c.args.files.now) (g.F.Files.meaning c.create.new.self) (g.F.Files.meaning c.write_held.new.writer) c.requires.head c.in-Ok-create.ensures.ok
-    (unfinished c.args.making.now c.args.head.now c.in-Ok-write_held.bytes (g.F.Files.meaning c.create.new.self) (g.F.Files.meaning c.write_held.new.writer) (c.in-Ok-write_held.ensures.ok c.args.making.now c.requires.held))
+    (unfinished c.args.making.now c.args.head.now c.in-Ok-write_held.count (g.F.Files.meaning c.create.new.self) (g.F.Files.meaning c.write_held.new.writer) (c.in-Ok-write_held.ensures.ok c.args.making.now c.requires.held))
     (ap (λ (d : Device). d.told) c.write_held.ensures.other))
 
 pub returns-in-Ok-write_held-clause-fault : goal.returns-in-Ok-write_held-clause-fault
