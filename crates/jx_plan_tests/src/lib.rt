@@ -10,6 +10,8 @@ mod checks;
 #[cfg(test)]
 mod hex;
 #[cfg(test)]
+mod index_tests;
+#[cfg(test)]
 mod parting_tests;
 #[cfg(test)]
 mod plan_tests;

@@ -147,12 +147,11 @@ pub index_stands : (m : Marks) (comps : ℕ) (before : List Segment) (parts : Li
 index_stands m comps before parts few = tlms_stand comps before (index_held m parts) (held_range m.tlm (map entry_of parts) few)
 
 -- ---- the bytes
-pub run_taken : {X : Type 0} (most k a : ℕ) (xs : List X) → k ≡ min (length xs - a) most → take k (take (length xs - a) (drop a xs)) ≡ take most (drop a xs)
+pub run_taken : {X : Type 0} (most k a : ℕ) (xs : List X) → k ≡ min (length (take (length xs - a) (drop a xs))) most → take k (take (length xs - a) (drop a xs)) ≡ take most (drop a xs)
 run_taken {X} most k a xs is =
     let rest : List X = drop a xs in
-    let long : length rest ≡ length xs - a = length-drop a xs in
-    let whole : take (length xs - a) rest ≡ rest = ap (λ (n : ℕ). take n rest) (sym long) ∙ take-length rest in
-    let few : k ≡ min most (length rest) = omega (arith, is, long) in
+    let whole : take (length xs - a) rest ≡ rest = ap (λ (n : ℕ). take n rest) (sym (length-drop a xs)) ∙ take-length rest in
+    let few : k ≡ min most (length rest) = omega (arith, is, ap (λ (z : List X). length z) whole) in
     ap (λ (z : List X). take k z) whole ∙ ap (λ (n : ℕ). take n rest) few ∙ take_min most rest
 
 pub segment_next : (entries : List PartLength) (n : ℕ) → all_bytes 1 (map (index_segment entries) (range_with_len 0 (n + 1)))

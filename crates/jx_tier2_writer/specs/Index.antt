@@ -53,7 +53,7 @@ indexed m s parts = record { siz = s.siz; main = s.main ++ index_of m parts; til
 
 -- ---- as it is read
 abbrev pub entry_at : List ℕ → PartLength
-entry_at bytes = record { tile = big_from 2 0 bytes; length = big_from 4 2 bytes }
+entry_at bytes = record { tile = big_from 0 2 bytes; length = big_from 2 4 bytes }
 
 -- so many entries, one behind another
 abbrev pub entries_at : ℕ → List ℕ → List PartLength
