@@ -168,7 +168,7 @@ module _ (laws : Laws) (aim : Aim) (input : List ℕ) (s : Stream) (blocks : Lis
   index_here parts = all_bytes (length s.siz.comps) (index_of w.marks parts)
 
   -- by whether it is asked
-  index_where : List TilePart → Bool → List ℕ
+  abbrev index_where : List TilePart → Bool → List ℕ
   index_where parts asked = main_bytes headers ++ all_bytes (length s.siz.comps) (if asked then index_segments (map entry_of parts) else [])
 
   head_of : (head out : List ℕ) (whole : IsWholeFile plan head out) → IsHead plan head → head ≡ main_bytes headers ++ index_here (joined whole.tiles.parts 0 tiles)
