@@ -53,7 +53,17 @@ ones s counts (suc n) each =
 pub undivided : (s : Stream) → AreAllParts part.None s (tile_number s.siz)
 undivided s = record { few = λ t lt. few_undivided s t; total = λ counts each. ones s counts (tile_number s.siz) each }
 
+pub undivided_by : (s : Stream) (n : ℕ) → n ≡ tile_number s.siz → AreAllParts part.None s n
+undivided_by s n is = subst (AreAllParts part.None s) (sym is) (undivided s)
+
 -- ---- one tile more
+pub few_next : (parts : PartChoice) (s : Stream) (n count : ℕ) → ((t : ℕ) → t < n → HasFewParts parts s t) → IsPartCount parts s n count → count ≤ most_parts
+    → (t : ℕ) → t < n + 1 → HasFewParts parts s t
+few_next parts s n count before own few t lt = elim (cases_lt t n) [
+  | inl less ↦ before t less
+  | inr ge ↦ let same : n ≡ t = omega arith in subst (HasFewParts parts s) same (few_by parts s n count own few)
+]
+
 abbrev pub IsTotalBelow : PartChoice → Stream → ℕ → ℕ → Type 0
 IsTotalBelow parts s n all = (counts : ℕ → ℕ) → ((t : ℕ) → t < n → IsPartCount parts s t (counts t)) → sum_below counts n ≡ all
 
@@ -97,17 +107,19 @@ entries_or m s range none = by m.tlm refl
     counts = counts_exist m.parts s range none
 
     by : (asked : Bool) → m.tlm ≡ asked → HasFewEntries m s ⊎ HasManyEntries m s
-    by false e = inl (λ yes. absurd (cc))
+    by false e = inl (record { few = λ yes. absurd (cc) })
     by true e = elim (cases_lt most_entries (sum_below counts.0 (tile_number s.siz))) [
       | inl many ↦ inr (record { asked = e; counts = counts.0; each = counts.1; many = many })
-      | inr few ↦ inl (λ yes others each.
-          let same : sum_below others (tile_number s.siz) ≡ sum_below counts.0 (tile_number s.siz) = one_total m.parts s range none others counts.0 each counts.1 (tile_number s.siz) (omega arith) in
-          omega (arith, few, same))
+      | inr few ↦ inl (record {
+        few = λ yes others each.
+            let same : sum_below others (tile_number s.siz) ≡ sum_below counts.0 (tile_number s.siz) = one_total m.parts s range none others counts.0 each counts.1 (tile_number s.siz) (omega arith) in
+            omega (arith, few, same);
+      })
     ]
 
 -- by the number that was counted
 pub few_counted : (m : Marks) (s : Stream) (all : ℕ) → AreAllParts m.parts s all → (m.tlm ≡ true → all ≤ most_entries) → HasFewEntries m s
-few_counted m s all are few = λ asked counts each. omega (arith, few asked, are.total counts each)
+few_counted m s all are few = record { few = λ asked counts each. omega (arith, few asked, are.total counts each) }
 
 pub many_counted : (m : Marks) (s : Stream) (all : ℕ) → StreamInRange s → totals_fault s ≡ None → AreAllParts m.parts s all → m.tlm ≡ true → most_entries < all → HasManyEntries m s
 many_counted m s all range none are asked many =
