@@ -88,9 +88,9 @@ pub fn output_is_strict()
         → AllShort out.parts (tile_number s.siz) → AreBlocksOf s blocks → All IsSound blocks → IsStrict m b (stream_read m s out.parts) }
 {}
 
-/// The index of a written file, as it is read from its main header, names each of its tile-parts in their order by the tile and Psot (`told`),
-/// where it is asked and nothing of what isn't written stands in the headers. A tile-part stands behind the main header and as many bytes as those
-/// before it have together (`stand`), so a reader that takes the index at its word finds each (T.800, A.7.1).
+/// The index of a written file, as it is read from its main header, names each of its tile-parts in their order by the tile and Psot
+/// (`told`), where it is asked and nothing of what isn't written stands in the headers. A tile-part stands behind the main header and
+/// as many bytes as those before it have together (`stand`), so a reader that takes the index at its word finds each (T.800, A.7.1).
 pub fn index_finds_parts()
     ensures told { (m : Marks) (s : Stream) (blocks : List Block) (b : List ℕ) (out : IsOutput m s blocks b) → AreReady m s
         → AllShort out.parts (tile_number s.siz) → m.tlm ≡ true → list_any is_left_out s.main ≡ false
@@ -101,8 +101,8 @@ pub fn index_finds_parts()
             ≡ part_bytes (length s.siz.comps) p }
 {}
 
-/// What the index tells of a tile's tile-parts are the tile and how many bytes each has (`lengths`); where it is asked it has room for
-/// those of all tiles (`few`).
+/// What the index tells of a tile's tile-parts are the tile and how many bytes each has (`lengths`); where it is asked it has room
+/// for those of all tiles (`few`).
 pub fn entries_are_lengths()
     ensures lengths { (m : Marks) (s : Stream) (blocks : List Block) (t : ℕ) (parts : List TilePart) → AreTilePartsOf m s blocks t parts
         → map entry_of parts ≡ map (length_in t) (map (part_bytes (length s.siz.comps)) parts) }
