@@ -1,6 +1,7 @@
 -- The choices in words, with the place and the value of the option that each is about.
 use Rattle.std.specs.Prelude.{ℕ, ◌==◌, ◌++◌, codes, if◌then◌else◌}
 use Rattle.std.specs.Fmt.{decimal}
+use Rattle.jx_messages.specs.Profile.{profile_words}
 use Rattle.jx_messages.specs.Text.{Text}
 
 -- where a choice about headers stands
@@ -62,6 +63,11 @@ abbrev pub levels_words : Text → Text → Text
 levels_words header value =
     codes "jx: --reduce " ++ (value ++ (codes " would leave out more resolutions than " ++ (header ++ codes "\n    has above the lowest: use a smaller number\n    (T.800 A.6.1, Table A.15; choice 9)\n")))
 
+-- more tile-parts than TLM can name
+abbrev pub entries_words : Text → Text
+entries_words value =
+    codes "jx: --tile-parts " ++ (value ++ codes " would cut the tiles into over 2795776\n    tile-parts in all, more than --tlm can name: use another --tile-parts, or\n    none, or leave out --tlm (T.800 A.7.1; choice 10)\n")
+
 -- the sentence of each choice
 unfoldable pub choice_words : ℕ → ℕ → Text → Text
 choice_words number place value =
@@ -72,7 +78,9 @@ choice_words number place value =
     if number == 5 then cut_words place value else
     if number == 6 then no_rule_words value else
     if number == 7 then long_words place else
-    if number == 8 then factor_words place value else levels_words (header_words place) value
+    if number == 8 then factor_words place value else
+    if number == 9 then levels_words (header_words place) value else
+    if number == 10 then entries_words value else profile_words place
 
 -- the option that each choice is about
 unfoldable pub option_words : ℕ → Text
@@ -83,4 +91,7 @@ option_words number =
     if number == 4 then codes "--layers" else
     if number == 5 then codes "--tile-parts" else
     if number == 6 then codes "--layers" else
-    if number == 7 then codes "--tile-parts" else codes "--reduce"
+    if number == 7 then codes "--tile-parts" else
+    if number == 8 then codes "--reduce" else
+    if number == 9 then codes "--reduce" else
+    if number == 10 then codes "--tile-parts" else codes "--rsiz"

@@ -7,6 +7,7 @@ pub mod Faults
 pub mod Limits
 pub mod Names
 pub mod Notes
+pub mod Profile
 pub mod Rules
 pub mod Sentences
 pub mod Shown

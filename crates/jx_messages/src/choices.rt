@@ -1,7 +1,9 @@
 //! The choices in words, with what to ask instead.
 ghost use Rattle.std.specs.Prelude.{◌≡◌, IfOk, string_bytes};
-ghost use Rattle.jx_messages.specs.Choices.{causal_words, choice_words, crowded_words, cut_words, factor_words, header_words, levels_words, long_words, misfit_words, no_rule_words, option_words, own_words, size_words, zero_words};
+ghost use Rattle.jx_messages.specs.Choices.{causal_words, choice_words, crowded_words, cut_words, entries_words, factor_words, header_words, levels_words, long_words, misfit_words, no_rule_words, option_words, own_words, size_words, zero_words};
+ghost use Rattle.jx_messages.specs.Profile.{profile_words};
 
+use crate::profile::profile_text;
 use std::alloc::{AllocError, Global};
 
 /// A style with another vertically causal bit than a block can have.
@@ -147,6 +149,15 @@ fn levels(alloc: Global, place: u32, count: &str) -> Result<String, AllocError>
     levels_in(alloc, at.as_str(), count)
 }
 
+/// More tile-parts than TLM can name.
+fn entries(alloc: Global, by: &str) -> Result<String, AllocError>
+    ensures { IfOk result (λ text. string_bytes text ≡ entries_words by.now) }
+{
+    format!(in alloc;
+        "jx: --tile-parts {by} would cut the tiles into over 2795776\n    tile-parts in all, more than --tlm can name: use another --tile-parts, or\n    none, or leave out --tlm (T.800 A.7.1; choice 10)\n"
+    )
+}
+
 /// The option that a choice is about.
 #[tactic(auto, unfolding(crate::specs::Choices::option_words))]
 pub(crate) fn option_of(number: u8) -> &'static str
@@ -160,11 +171,14 @@ pub(crate) fn option_of(number: u8) -> &'static str
         5 => "--tile-parts",
         6 => "--layers",
         7 => "--tile-parts",
-        _ => "--reduce",
+        8 => "--reduce",
+        9 => "--reduce",
+        10 => "--tile-parts",
+        _ => "--rsiz",
     }
 }
 
-/// A choice in words, 1 to 9, with the value of the option that it is about.
+/// A choice in words, 1 to 11, with the value of the option that it is about.
 #[tactic(auto, unfolding(crate::specs::Choices::choice_words))]
 pub(crate) fn choice_text(
     alloc: Global,
@@ -183,6 +197,8 @@ pub(crate) fn choice_text(
         6 => no_rule(alloc, value),
         7 => long(alloc, place),
         8 => factor(alloc, place, value),
-        _ => levels(alloc, place, value),
+        9 => levels(alloc, place, value),
+        10 => entries(alloc, value),
+        _ => profile_text(alloc, place),
     }
 }

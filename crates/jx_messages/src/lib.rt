@@ -11,6 +11,7 @@ mod help;
 mod limits;
 mod notes;
 mod options;
+mod profile;
 mod rules;
 mod sentence;
 mod shown;

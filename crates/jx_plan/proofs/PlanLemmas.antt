@@ -1,7 +1,7 @@
 -- What a plan stands on: how many layers a stream has, a block at its number, and the headers that are written.
 use Rattle.std.proofs.Common.{◌≡◌, ◌<◌, ◌≤◌, ◌^◌, ◌∙◌, ap, sym, subst, arith, ℕ, false, List, length, nat_lt, Option, None, Some}
 use Rattle.std.specs.List.{All, slice_get}
-use Rattle.std.specs.Option.{IfSome, MatchOption}
+use Rattle.std.specs.Option.{IfSome}
 use Rattle.std.proofs.lemmas.Bool.Decides.{nat_tests}
 use Rattle.std.proofs.lemmas.Option.{get_or_from_slice_get}
 use Rattle.jx_base.specs.declared.names.BlockName.{BlockName}
@@ -29,8 +29,7 @@ use Rattle.jx_tile.specs.Totals.{block_total, packet_total, totals_fault}
 use Rattle.jx_layers.specs.Causal.{breaks_plane, first_broken}
 use Rattle.jx_layers.specs.Facts.{most_layers}
 use Rattle.jx_plan.specs.Fits.{Fits}
-use Rattle.jx_options.specs.declared.PartChoice.{PartChoice}
-use Rattle.jx_plan.specs.Groups.{HasFewParts, IsPartedAt}
+use Rattle.jx_plan.specs.Groups.{HasFewParts}
 use Rattle.jx_plan.specs.Headers.{MayBeInHeaders, with_layers}
 use Rattle.jx_plan.specs.Plan.{MayBePlanned, headers_with, most_packets}
 use Rattle.jx_options.specs.Wanted.{MayBeStyle, MayBeWanted, Wanted}
@@ -107,13 +106,6 @@ pub few_made : (w : Wanted) (layers : ℕ) (s other : Stream) → other ≡ head
 few_made w layers s other is few t inside =
     let there : t < tile_number other.siz = omega (arith, inside, ap (λ (x : Stream). tile_number x.siz) is, tile_number_stays (with_layers w layers) s) in
     subst (λ (x : Stream). HasFewParts w.marks.parts x t) is (few t there)
-
-abbrev FewOf : PartChoice → Stream → Type 0
-FewOf parts s = (t : ℕ) → t < tile_number s.siz → HasFewParts parts s t
-
-pub none_parted : (own parts : PartChoice) (s : Stream) (first : Option ℕ) → own ≡ parts → first ≡ None → MatchOption first (FewOf own s) (IsPartedAt own s) → FewOf parts s
-none_parted own parts s None e none few = subst (λ (p : PartChoice). FewOf p s) e few
-none_parted own parts s (Some t) e none few = absurd (cc)
 
 -- ---- what was read may be planned
 pub gathered_may : (b : List ℕ) (s : Stream) (blocks : List Block) → IsRead b s → length b ≤ 2 ^ 28 → totals_fault s ≡ None → IsGathered b s blocks → MayBePlanned s blocks

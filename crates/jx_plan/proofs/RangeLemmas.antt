@@ -1,5 +1,5 @@
 -- The stream that is written is in range, and its headers stand in its file.
-use Rattle.std.proofs.Common.{◌≡◌, ◌∙◌, ◌<◌, ℕ, false, arith, List, [], ◌∷◌, map, length, get_or, refl, sym, ap, subst, nat_lt, Option, Some, None, inl, inr}
+use Rattle.std.proofs.Common.{◌≡◌, ◌∙◌, ◌<◌, ℕ, false, arith, List, [], ◌∷◌, map, length, get_or, refl, sym, ap, subst, nat_lt, Option, Some, None, inl, inr, ◌^◌}
 use Rattle.std.specs.Prelude.{IfSome}
 use Rattle.std.specs.List.{All, find, flat_map}
 use Rattle.std.specs.Option.{option_or, option_map}

@@ -52,10 +52,22 @@ fn is_full(comp: &CompSize) -> bool
     comp.ssiz == 11 && comp.dx == 1 && comp.dy == 1
 }
 
+fn all_full(comps: &[CompSize]) -> bool
+    ensures { result ≡ list_all is_full comps.now }
+{
+    comps.iter().all(|comp| is_full(comp))
+}
+
 fn are_full(comps: &[CompSize]) -> bool
     ensures { result ≡ are_full comps.now }
 {
-    comps.len() == 3 && comps.iter().all(|comp| is_full(comp))
+    comps.len() == 3 && all_full(comps)
+}
+
+fn all_large(bytes: &[u8]) -> bool
+    ensures { result ≡ list_all (λ b. b == 136) bytes.now }
+{
+    bytes.iter().all(|byte| *byte == 136)
 }
 
 /// Bytes of precincts: 7 and 7, then 8 and 8.
@@ -63,7 +75,7 @@ fn are_squares(bytes: &[u8]) -> bool
     ensures { result ≡ are_squares bytes.now }
 {
     match bytes.split_first() {
-        Some((first, above)) => *first == 119 && above.iter().all(|byte| *byte == 136),
+        Some((first, above)) => *first == 119 && all_large(above),
         None => false,
     }
 }
@@ -129,12 +141,7 @@ fn meets(segment: &Segment, demand: Demand) -> bool
 fn each_meets(segments: &[Segment], demand: Demand) -> bool
     ensures { result ≡ list_all (meets demand) segments.now }
 {
-    for segment in segments {
-        if !meets(segment, demand) {
-            return false;
-        }
-    }
-    true
+    segments.iter().all(|segment| meets(segment, demand))
 }
 
 /// Of the main header and the first tile's.
@@ -144,18 +151,19 @@ fn all_meet(stream: &Stream, demand: Demand) -> bool
     each_meets(stream.main.as_slice(), demand) && each_meets(stream.header(0), demand)
 }
 
+fn is_parameter(segment: &Segment) -> bool
+    ensures { result ≡ is_parameter segment.now }
+{
+    matches!(
+        segment,
+        Segment::Cod(_) | Segment::Coc { .. } | Segment::Qcd(_) | Segment::Qcc { .. }
+    )
+}
+
 fn has_parameters(header: &[Segment]) -> bool
     ensures { result ≡ list_any is_parameter header.now }
 {
-    for segment in header {
-        if matches!(
-            segment,
-            Segment::Cod(_) | Segment::Coc { .. } | Segment::Qcd(_) | Segment::Qcc { .. }
-        ) {
-            return true;
-        }
-    }
-    false
+    header.iter().any(|segment| is_parameter(segment))
 }
 
 fn by_component(parts: PartChoice) -> bool
