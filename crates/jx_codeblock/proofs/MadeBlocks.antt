@@ -6,6 +6,7 @@ use Rattle.std.proofs.lemmas.List.Concat.{length-flat_map}
 use Rattle.std.proofs.lemmas.Option.{same_Some}
 use Rattle.jx_base.specs.declared.pieces.Block.{Block}
 use Rattle.jx_base.specs.declared.style.Style.{Style}
+use Rattle.jx_base.specs.Passes.{bypasses}
 use Rattle.jx_base.specs.Pieces.{ArePieces, PieceValue, bytes_in, passes_at}
 use Rattle.jx_base.specs.Sound.{IsSound}
 use Rattle.jx_base.proofs.Lists.{some_none}
@@ -21,7 +22,7 @@ use Rattle.jx_codeblock.proofs.CutLemmas.{cut_in_layers}
 use Rattle.jx_codeblock.proofs.GroupLemmas.{groups_bytes, none_left, segments_are}
 use Rattle.jx_codeblock.proofs.KeptLemmas.{own_ends_rise}
 use Rattle.jx_codeblock.proofs.LawLemmas.{kept_pieces}
-use Rattle.jx_codeblock.proofs.LengthLemmas.{anew_few}
+use Rattle.jx_codeblock.proofs.LengthLemmas.{anew_few, anew_short}
 use Rattle.jx_codeblock.proofs.MadeJobs.{all_sound}
 use Rattle.jx_codeblock.proofs.RegroupLemmas.{kept_segments}
 use Rattle.jx_codeblock.proofs.ShareLemmas.{ends_all, parts_all, parts_cut, parts_end, same_shares}
@@ -89,6 +90,15 @@ made_sound b style ends r asked e =
       pieces = subst (λ (s : ℕ). ArePieces s 0 0 b.passes (recoded_pieces r)) (sym (made_style b style ends r e)) are;
       bytes = omega arith;
     }
+
+pub bypass_short : (b : Block) (style : Style) (ends : List LayerEnd) (r : Recoding) → IsAsked b (Some style) ends → Some r ≡ recoding b (Some style) ends
+    → bypasses style.bits ≡ true → b.passes ≤ 37 → bytes_in (recoded_pieces r) ≤ 309123
+bypass_short b style ends r asked e bypass few =
+    let are : ArePieces style.bits 0 0 b.passes (recoded_pieces r) = all_sound b (Some style) ends r asked e in
+    let short : length (concat (segments_of style.bits b.passes (recoded_pieces r))) ≤ 309123 =
+    subst (λ (ss : List (List ℕ)). length (concat ss) ≤ 309123) (sym (anew_segments b style ends r asked e)) (anew_short b style asked.sound bypass few) in
+    let same = bytes_together style.bits b.passes (recoded_pieces r) are in
+    omega arith
 
 pub made_shares : (b : Block) (style : Option Style) (ends : List LayerEnd) (r : Recoding) (layer : ℕ) → IsAsked b style ends → Some r ≡ recoding b style ends → layer_ends b.pieces ≡ ends
     → passes_at layer (recoded_pieces r) ≡ passes_at layer b.pieces

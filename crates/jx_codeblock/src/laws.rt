@@ -3,7 +3,8 @@
 ghost use Rattle.std.specs.Prelude.{◌≡◌, ◌≢◌, ◌≤◌, ◌<◌, ◌^◌, ℕ, true, false, List, [], All, length, Option, Some, None};
 ghost use Rattle.jx_base.specs.declared.pieces.Block.{Block};
 ghost use Rattle.jx_base.specs.declared.style.Style.{Style};
-ghost use Rattle.jx_base.specs.Pieces.{ArePieces, PieceValue, passes_at};
+ghost use Rattle.jx_base.specs.Passes.{bypasses};
+ghost use Rattle.jx_base.specs.Pieces.{ArePieces, PieceValue, bytes_in, passes_at};
 ghost use Rattle.jx_base.specs.Sound.{IsSound};
 ghost use Rattle.jx_codeblock.specs.declared.LayerEnd.{LayerEnd};
 ghost use Rattle.jx_codeblock.specs.Jobs.{IsAsked, KeepsCausal};
@@ -114,6 +115,13 @@ pub fn nothing_of_wrong_symbols()
 pub fn new_bytes_are_few()
     ensures { (b : Block) → (style : Style) → (ends : List LayerEnd) → (r : Recoding) → IsAsked b (Some style) ends →
         Some r ≡ recoding b (Some style) ends → length r.bytes ≤ 2 ^ 28 }
+{}
+
+/// With the bypass the pieces of one of at most 37 coding passes, as 13 planes have, have at most 309,123 bytes: 19 passes go through
+/// the arithmetic coder, with six shifts for a decision, the others are raw (ITU-T T.800, D.6).
+pub fn new_bytes_with_bypass()
+    ensures { (b : Block) → (style : Style) → (ends : List LayerEnd) → (r : Recoding) → IsAsked b (Some style) ends →
+        Some r ≡ recoding b (Some style) ends → bypasses style.bits ≡ true → b.passes ≤ 37 → bytes_in (recoded_pieces r) ≤ 309123 }
 {}
 
 /// A job is bad exactly where nothing can be made of it.

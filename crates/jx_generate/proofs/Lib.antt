@@ -8,9 +8,10 @@ mod WriterLemmas
 mod RangeLemmas
 mod ReadLemmas
 mod OrderLemmas
+mod OneLayer
 mod FillLemmas
 mod WrittenLemmas
 mod WellLemmas
-mod HeaderBits
+pub mod HeaderBits
 mod ShortLemmas
 mod PlainLemmas

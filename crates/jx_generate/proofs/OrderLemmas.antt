@@ -22,13 +22,13 @@ record HasFields (p : PacketName) : Type 0 where
   comp : p.comp < 3
   precinct : p.precinct ≡ 0
 
-one_of : (x p : PacketName) → Contains (x ∷ []) p → x ≡ p
+pub one_of : (x p : PacketName) → Contains (x ∷ []) p → x ≡ p
 one_of x p has = elim (contains_cons x [] p has) [
   | inl e ↦ e
   | inr none ↦ absurd (contains_none p none)
 ]
 
-from_resolution : (l r : ℕ) (p : PacketName) → Contains (resolution_names l r) p → (p.layer ≡ l) × (p.res ≡ r) × (p.comp < 3) × (p.precinct ≡ 0)
+pub from_resolution : (l r : ℕ) (p : PacketName) → Contains (resolution_names l r) p → (p.layer ≡ l) × (p.res ≡ r) × (p.comp < 3) × (p.precinct ≡ 0)
 unfolding resolution_names
 from_resolution l r p has =
     let at : JoinedAt (one_name l r) 0 3 p = joined_has (one_name l r) 0 3 p has in
@@ -40,7 +40,7 @@ from_resolution l r p has =
       sym (ap (λ (x : PacketName). x.precinct) e),
     )
 
-from_layer : (l : ℕ) (p : PacketName) → Contains (layer_names l) p → (p.layer ≡ l) × (p.res < 6) × (p.comp < 3) × (p.precinct ≡ 0)
+pub from_layer : (l : ℕ) (p : PacketName) → Contains (layer_names l) p → (p.layer ≡ l) × (p.res < 6) × (p.comp < 3) × (p.precinct ≡ 0)
 unfolding layer_names
 from_layer l p has =
     let at : JoinedAt (resolution_names l) 0 6 p = joined_has (resolution_names l) 0 6 p has in
@@ -65,7 +65,7 @@ to_names l r c hl hr hc =
     joined_from layer_names 0 12 p (record { number = l; from = omega arith; below = hl; has = two })
 
 -- ---- its order
-single : {X : Type 0} (R : X → X → Type 0) (x : X) → AllPairs R (x ∷ [])
+pub single : {X : Type 0} (R : X → X → Type 0) (x : X) → AllPairs R (x ∷ [])
 single R x i j d lt below = absurd (omega arith)
 
 abbrev Before : Geometry → PacketName → PacketName → Type 0

@@ -1,4 +1,4 @@
--- A made file has at most 2^28 bytes: 216 packets, of which each has at most 4,096 code-blocks with at most 143 bytes of header and 92 coded
+-- A made file has at most 2^28 bytes: 216 packets, of which each has at most 3,072 code-blocks with at most 143 bytes of header and 92 coded
 -- bytes for each.
 use Rattle.std.proofs.Common.{◌≡◌, ◌∙◌, ℕ, zero, suc, ◌+◌, ◌-◌, ◌*◌, ◌^◌, ◌≤◌, ◌<◌, List, [], ◌∷◌, ◌++◌, length, map, refl, sym, ap, subst, arith, inl, inr}
 use Rattle.std.specs.List.{AllByRecursion, flat_map, range_with_len}
@@ -36,7 +36,7 @@ use Rattle.jx_generate.specs.Made.{file_made}
 use Rattle.jx_generate.specs.Making.{pieces_bytes}
 use Rattle.jx_generate.proofs.DrawnFits.{HasFew, count_few, first_next, fit_drawn, over_layers, passes_short}
 use Rattle.jx_generate.proofs.GeometryLemmas.{IsSmall, IsWhole, IsWholeRect, block_across_6, block_down_6, component_whole, geometry_in_range, precinct_there, shape_at, whole_made}
-use Rattle.jx_generate.proofs.HeaderBits.{AreOf13, HasOne, header_few}
+use Rattle.jx_generate.proofs.HeaderBits.{AreOf13, HaveFew, header_few}
 use Rattle.jx_generate.proofs.PrecinctLemmas.{all_13, cells_13}
 use Rattle.jx_generate.proofs.WellLemmas.{body_few}
 
@@ -111,11 +111,11 @@ one_part layer j x = by (parts_in layer (leaf_of_drawn j (drawn_at x)).parts) ((
     by ps (inl none) = omega (arith, ap length none)
     by ps (inr (p, is)) = omega (arith, ap length is.one)
 
-one_each : (layer : ℕ) (leaf : ℕ → Leafed) (a n : ℕ) → ((j : ℕ) → length (parts_in layer (leaf j).parts) ≤ 1) → HasOne layer (map leaf (range_with_len a n))
+one_each : (layer : ℕ) (leaf : ℕ → Leafed) (a n : ℕ) → ((j : ℕ) → length (parts_in layer (leaf j).parts) ≤ 1) → HaveFew 1 layer (map leaf (range_with_len a n))
 one_each layer leaf a zero each = tt
 one_each layer leaf a (suc n) each = (each a, one_each layer leaf (a + 1) n each)
 
--- ---- a resolution's precinct has at most 4,096 blocks
+-- ---- a resolution's precinct has at most 3,072 blocks
 two_at_least : (level : ℕ) → 1 ≤ level → 2 ≤ 2 ^ level
 two_at_least zero some = absurd (omega arith)
 two_at_least (suc level) some = omega (arith, pow_pos level)
@@ -154,7 +154,7 @@ unfolding geometry_made
 blocks_of w h c r b sizes lt le some =
     subst (λ (s : CompShape). block_count (tile_rect (canvas_made w h) 0) s r b ≤ 1024) (sym (shape_at c lt)) (high_blocks (tile_rect (canvas_made w h) 0) r b (whole_made w h sizes) le some)
 
-few_leaves : (w h c r : ℕ) → AreSizes w h → c < 3 → r ≤ 5 → leaves (geometry_made w h) c r 0 ≤ 4096
+pub few_leaves : (w h c r : ℕ) → AreSizes w h → c < 3 → r ≤ 5 → leaves (geometry_made w h) c r 0 ≤ 3072
 few_leaves w h c r sizes lt le =
     let g : Geometry = geometry_made w h in
     let range : GeometryInRange g = geometry_in_range w h sizes in
@@ -183,7 +183,7 @@ bands_13 : (w h c r : ℕ) → AreOf13 (bands_made w h c r)
 unfolding bands_made
 bands_13 w h c r = of_13 (cells_13 (geometry_made w h) c r (bands_at r)) (all_13 (geometry_made w h) c r (bands_at r))
 
-leaves_one : (seed w h c r layer : ℕ) → HasOne layer (leaves_made seed w h c r)
+leaves_one : (seed w h c r layer : ℕ) → HaveFew 1 layer (leaves_made seed w h c r)
 unfolding leaves_made
 leaves_one seed w h c r layer = one_each layer (leaf_made seed w h c r) 0 (leaves (geometry_made w h) c r 0) (λ j. one_part layer j _)
 
@@ -193,7 +193,8 @@ leaves_count seed w h c r = length-map-range_with_len (leaf_made seed w h c r) 0
 
 header_short : (seed w h c r layer : ℕ) → layer < 12 → length (header_made seed w h c r layer) ≤ 143 * length (leaves_made seed w h c r) + 2
 unfolding header_made
-header_short seed w h c r layer lt = header_few 12 0 (bands_made w h c r) (leaves_made seed w h c r) layer lt (bands_13 w h c r) (leaves_one seed w h c r)
+header_short seed w h c r layer lt =
+    let few = header_few 1 1000 (omega arith) 12 0 (bands_made w h c r) (leaves_made seed w h c r) layer lt (bands_13 w h c r) (leaves_one seed w h c r) in omega (arith, few)
 
 data_short : (seed w h c r layer : ℕ) → length (data_made seed w h c r layer) ≤ leaves (geometry_made w h) c r 0 * 92
 unfolding data_made

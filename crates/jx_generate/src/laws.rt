@@ -1,12 +1,15 @@
 //! Laws of made files. The functions do nothing: their contracts carry the laws.
 
-ghost use Rattle.std.specs.Prelude.{◌≡◌, ◌+◌, ◌*◌, ◌/◌, ◌<◌, ◌≤◌, ◌^◌, ◌↔◌, ℕ, List, length};
+ghost use Rattle.std.specs.Prelude.{◌≡◌, ◌+◌, ◌*◌, ◌/◌, ◌<◌, ◌≤◌, ◌^◌, ◌↔◌, ℕ, List, [], ◌∷◌, length};
 ghost use Rattle.std.specs.List.{All};
 ghost use Rattle.jx_base.specs.declared.pieces.Block.{Block};
 ghost use Rattle.jx_base.specs.Markers.{HasNoMarker};
 ghost use Rattle.jx_base.specs.Sound.{IsSound};
 ghost use Rattle.jx_geom.specs.Counts.{tile_precincts};
 ghost use Rattle.jx_geom.specs.Geometry.{HasResolution, rect_of_tile};
+ghost use Rattle.jx_geom.specs.Precincts.{leaves};
+ghost use Rattle.jx_progression.specs.declared.names.PacketName.{PacketName};
+ghost use Rattle.jx_progression.specs.Packets.{IsOrder};
 ghost use Rattle.jx_tier2_reader.specs.Accepted.{IsAccepted};
 ghost use Rattle.jx_tier2_reader.specs.BlockOf.{AreBlocksOf};
 ghost use Rattle.jx_tier2_reader.specs.WellFormed.{IsWellFormed};
@@ -15,8 +18,12 @@ ghost use Rattle.jx_codestream.specs.Shapes.{geometry};
 ghost use Rattle.jx_generate.specs.Drawn.{first_pass, pass_bytes};
 ghost use Rattle.jx_generate.specs.Headers.{AreSizes};
 ghost use Rattle.jx_generate.specs.Made.{body_made, file_made};
+ghost use Rattle.jx_generate.specs.OneLayer.{entry_of_layers};
+ghost use Rattle.jx_generate.specs.Packets.{layer_names};
 ghost use Rattle.jx_generate.specs.Plain.{IsPlain};
 ghost use Rattle.jx_generate.specs.Reading.{stream_made};
+
+use jx_progression::laws::orders_are_one;
 
 /// A made file has at most 2^28 bytes.
 pub fn made_is_short()
@@ -52,3 +59,12 @@ pub fn made_geometry()
     ensures precincts { (w h size : ℕ) → AreSizes w h → tile_precincts (rect_of_tile (geometry (stream_made w h size) 0)) (geometry (stream_made w h size) 0).shapes ≤ 18 }
     ensures levels { (w h size c r : ℕ) → HasResolution (geometry (stream_made w h size) 0) c r → r ≤ 5 }
 {}
+
+/// Written anew in one layer and in the order RPCL (T.800, B.12.1.3), a made file has three packets in each resolution, one for each
+/// component, of at most 3,072 code-blocks.
+pub fn made_in_one_layer()
+    ensures order { (w h size : ℕ) (names : List PacketName) → AreSizes w h → IsOrder (geometry (stream_made w h size) 0) 1 (entry_of_layers 1 ∷ []) 1 names → names ≡ layer_names 0 }
+    ensures leaves { (w h size c r : ℕ) → AreSizes w h → c < 3 → r < 6 → leaves (geometry (stream_made w h size) 0) c r 0 ≤ 3072 }
+{
+    orders_are_one();
+}

@@ -5,8 +5,6 @@ use mathlib.Core.List.{reverse-cons}
 use Rattle.std.proofs.lemmas.List.{length-reverse, reverse-reverse}
 use Rattle.jx_coder_specs.specs.MqTable.{MqContexts, mq_fresh, mq_row_of}
 use Rattle.jx_coder_specs.specs.MqWriting.{MqWriter, MqGiven, Decided, Renewed, mq_writer, mq_newest, mq_raised, mq_plain, mq_stuffed, mq_carried, mq_by_newest, mq_byte_out, mq_shifted, mq_renormalized, mq_lower, mq_upper, mq_part, mq_written, mq_last_number, mq_given_out, mq_flushed, mq_trimmed, mq_segment, mq_is_mps, mq_wrote, mq_after_bit, mq_written_from, mq_write}
-use Rattle.jx_mq.specs.Coding.{AreGiven, IsCoder, IsRenormalizing}
-use Rattle.jx_mq.specs.Shifting.{IsShort}
 use Rattle.jx_mq.proofs.Renormals.{renormalized_more, renormalized_done}
 
 -- a byte more, and CT is what it takes
@@ -36,16 +34,15 @@ carried_more w =
     either_more (mq_newest (mq_carried w).bytes == 255) (mq_carried w) (mq_stuffed (mq_carried w)) (mq_plain (mq_carried w)) (stuffed_more (mq_carried w)) (plain_more (mq_carried w)) in
     record { long = m.long ∙ ap (λ (n : ℕ). n + 1) raised; least = m.least; most = m.most }
 
-pub byte_out_more : (w : MqWriter) → OneMore w (mq_byte_out w)
+byte_out_more : (w : MqWriter) → OneMore w (mq_byte_out w)
 byte_out_more w =
     either_more (mq_newest w.bytes == 255) w (mq_stuffed w) (if ltb w.c 134217728 then mq_plain w else mq_by_newest (mq_carried w)) (stuffed_more w)
     (either_more (ltb w.c 134217728) w (mq_plain w) (mq_by_newest (mq_carried w)) (plain_more w) (carried_more w))
 
 -- so many shifts give out a byte for seven of them at most, and CT stays small
-record Few (n : ℕ) (w after : MqWriter) : Type 0 where
-  least : length w.bytes ≤ length after.bytes
-  most : 7 * length after.bytes + w.ct ≤ 7 * length w.bytes + after.ct + n
-  ct : w.ct ≤ 12 → after.ct ≤ 12
+pub record Few (n : ℕ) (w after : MqWriter) : Type 0 where
+  pub most : 7 * length after.bytes + w.ct ≤ 7 * length w.bytes + after.ct + n
+  pub ct : w.ct ≤ 12 → after.ct ≤ 12
 
 either_few : (test : Bool) (n : ℕ) (w x y : MqWriter) → Few n w x → Few n w y → Few n w (if test then x else y)
 either_few true n w x y p q = p
@@ -58,8 +55,8 @@ given_few w moved out same ct more =
     let least = more.least in
     let most = more.most in
     elim (cases_lt 0 moved.ct) [
-      | inl some ↦ rw (ne_eqb moved.ct 0 (omega arith)) (record { least = omega arith; most = omega arith; ct = λ h. omega arith })
-      | inr none ↦ rw (eq-eqb moved.ct 0 (omega arith)) (record { least = omega arith; most = omega arith; ct = λ h. omega arith })
+      | inl some ↦ rw (ne_eqb moved.ct 0 (omega arith)) (record { most = omega arith; ct = λ h. omega arith })
+      | inr none ↦ rw (eq-eqb moved.ct 0 (omega arith)) (record { most = omega arith; ct = λ h. omega arith })
     ]
 
 shifted_few : (w : MqWriter) → Few 1 w (mq_shifted w)
@@ -71,56 +68,35 @@ renormalized_none : (w : MqWriter) → mq_renormalized 0 w ≡ w
 unfolding mq_renormalized
 renormalized_none w = refl
 
-renormalized_few : (n : ℕ) (w : MqWriter) → Few n w (mq_renormalized n w)
-renormalized_few zero w = rw (renormalized_none w) (record { least = omega arith; most = omega arith; ct = λ h. h })
+pub renormalized_few : (n : ℕ) (w : MqWriter) → Few n w (mq_renormalized n w)
+renormalized_few zero w = rw (renormalized_none w) (record { most = omega arith; ct = λ h. h })
 renormalized_few (suc n) w =
     elim (cases_lt w.a 32768) [
       | inl less ↦
           let one = shifted_few w in
           let rest = renormalized_few n (mq_shifted w) in
-          let least = one.least in
-          let least' = rest.least in
           let most = one.most in
           let most' = rest.most in
-          rw (renormalized_more n w less) (record { least = omega arith; most = omega arith; ct = λ h. rest.ct (one.ct h) })
-      | inr most ↦ rw (renormalized_done (suc n) w most) (record { least = omega arith; most = omega arith; ct = λ h. h })
+          rw (renormalized_more n w less) (record { most = omega arith; ct = λ h. rest.ct (one.ct h) })
+      | inr most ↦ rw (renormalized_done (suc n) w most) (record { most = omega arith; ct = λ h. h })
     ]
 
-part_few : (w : MqWriter) (qe : ℕ) (is_mps : Bool) → Few 0 w (mq_part w qe is_mps)
+pub part_few : (w : MqWriter) (qe : ℕ) (is_mps : Bool) → Few 0 w (mq_part w qe is_mps)
 part_few w qe is_mps =
-    let lower : Few 0 w (mq_lower w qe) = record { least = omega arith; most = omega arith; ct = λ h. h } in
-    let upper : Few 0 w (mq_upper w qe) = record { least = omega arith; most = omega arith; ct = λ h. h } in
+    let lower : Few 0 w (mq_lower w qe) = record { most = omega arith; ct = λ h. h } in
+    let upper : Few 0 w (mq_upper w qe) = record { most = omega arith; ct = λ h. h } in
     either_few is_mps 0 w (if ltb (w.a - qe) qe then mq_lower w qe else mq_upper w qe) (if ltb (w.a - qe) qe then mq_upper w qe else mq_lower w qe)
     (either_few (ltb (w.a - qe) qe) 0 w (mq_lower w qe) (mq_upper w qe) lower upper) (either_few (ltb (w.a - qe) qe) 0 w (mq_upper w qe) (mq_lower w qe) upper lower)
 
 -- shifts of one list and of another
-both_few : (n m : ℕ) (w x y : MqWriter) → Few n w x → Few m x y → Few (n + m) w y
+pub both_few : (n m : ℕ) (w x y : MqWriter) → Few n w x → Few m x y → Few (n + m) w y
 both_few n m w x y p q =
-    let a = p.least in
-    let b = q.least in
     let c = p.most in
     let d = q.most in
-    record { least = omega arith; most = omega arith; ct = λ h. q.ct (p.ct h) }
-
-wrote_few : (w : MqWriter) (x : MqContexts) (label : ℕ) (bit : Bool) → Few 15 w (mq_wrote w x label bit)
-wrote_few w x label bit =
-    let part : MqWriter = mq_part w (mq_row_of x label).qe (mq_is_mps x label bit) in
-    both_few 0 15 w part (mq_renormalized 15 part) (part_few w (mq_row_of x label).qe (mq_is_mps x label bit)) (renormalized_few 15 part)
-
-written_few : (given : List MqGiven) (w : MqWriter) (x : MqContexts) → Few (15 * length given) w (mq_written_from w x given).writer
-written_few [] w x = record { least = omega arith; most = omega arith; ct = λ h. h }
-written_few (Decided label bit ∷ given) w x =
-    let next : MqWriter = mq_wrote w x label bit in
-    let n : 15 + 15 * length given ≡ 15 * length (Decided label bit ∷ given) = omega arith in
-    rw n at (both_few 15 (15 * length given) w next (mq_written_from next (mq_after_bit w x label bit) given).writer (wrote_few w x label bit) (written_few given next (mq_after_bit w x label bit)))
-written_few (Renewed ∷ given) w x =
-    let f = written_few given w mq_fresh in
-    let least = f.least in
-    let most = f.most in
-    record { least = omega arith; most = omega arith; ct = f.ct }
+    record { most = omega arith; ct = λ h. q.ct (p.ct h) }
 
 -- FLUSH gives out two bytes, and a last FF and the byte before the first are left out
-pub flushed_long : (w : MqWriter) → length (mq_flushed w) ≡ length w.bytes + 2
+flushed_long : (w : MqWriter) → length (mq_flushed w) ≡ length w.bytes + 2
 flushed_long w =
     let last : MqWriter = record w { c = mq_last_number w } in
     let first = byte_out_more (record last { c = last.c * 2 ^ last.ct }) in
@@ -130,82 +106,23 @@ flushed_long w =
     let b = second.long in
     omega arith
 
-either_trimmed : (test : Bool) (byte : ℕ) (older : List ℕ) → (length (byte ∷ older) ≤ length (if test then older else byte ∷ older) + 1) × (length (if test then older else byte ∷ older) ≤ length (byte ∷ older))
-either_trimmed true byte older = (omega arith, omega arith)
-either_trimmed false byte older = (omega arith, omega arith)
+either_trimmed : (test : Bool) (byte : ℕ) (older : List ℕ) → length (if test then older else byte ∷ older) ≤ length (byte ∷ older)
+either_trimmed true byte older = omega arith
+either_trimmed false byte older = omega arith
 
-trimmed_long : (bytes : List ℕ) → (length bytes ≤ length (mq_trimmed bytes) + 1) × (length (mq_trimmed bytes) ≤ length bytes)
-trimmed_long [] = (omega arith, omega arith)
+trimmed_long : (bytes : List ℕ) → length (mq_trimmed bytes) ≤ length bytes
+trimmed_long [] = omega arith
 trimmed_long (byte ∷ older) = either_trimmed (byte == 255) byte older
 
-pub segment_long : (w : MqWriter) → length (mq_segment w) ≡ length (mq_trimmed (mq_flushed w)) - 1
+segment_long : (w : MqWriter) → length (mq_segment w) ≡ length (mq_trimmed (mq_flushed w)) - 1
 segment_long w = length-drop 1 (reverse (mq_trimmed (mq_flushed w))) ∙ ap (λ (n : ℕ). n - 1) (length-reverse (mq_trimmed (mq_flushed w)))
 
-pub segment_least : (w : MqWriter) → length w.bytes ≤ length (mq_segment w)
-segment_least w =
+-- the segment has one byte more than were given out, at most
+pub segment_most : (w : MqWriter) → length (mq_segment w) ≤ length w.bytes + 1
+segment_most w =
     let whole = segment_long w in
     let all = flushed_long w in
     let t = trimmed_long (mq_flushed w) in
-    omega arith
-
-pub short_segment : (x : MqContexts) (given : List MqGiven) → length (mq_write x given) ≤ 15 * length given / 7 + 2
-short_segment x given =
-    let w : MqWriter = (mq_written_from mq_writer x given).writer in
-    let f : Few (15 * length given) mq_writer (mq_written_from mq_writer x given).writer = written_few given mq_writer x in
-    let most = f.most in
-    let ct : w.ct ≤ 12 = f.ct (omega arith) in
-    let whole = segment_long w in
-    let all = flushed_long w in
-    let t = trimmed_long (mq_flushed w) in
-    omega arith
-
--- shifts that are left leave the bytes that are there
-pub renormalizing_least : (first w : MqWriter) (left : ℕ) → IsShort w.a left → IsRenormalizing first w → length w.bytes ≤ length (mq_renormalized 15 first).bytes
-renormalizing_least first w left short h =
-    let few = renormalized_few left w in
-    let least : length w.bytes ≤ length (mq_renormalized left w).bytes = few.least in
-    rw (h.leads left short.enough) at least
-
-given_some : (bytes : List ℕ) → AreGiven bytes → 0 < length bytes
-given_some [] h = absurd h
-given_some (byte ∷ older) h = omega arith
-
--- a decision for whose bytes there is no room, in a list that has one byte before the first
-pub refused_bit : (limit : ℕ) (w now : MqWriter) (qe : ℕ) (is_mps : Bool) → now ≡ mq_part w qe is_mps → limit < length (mq_renormalized 15 now).bytes →
-    limit - 1 < length (mq_segment (mq_written w qe is_mps))
-refused_bit limit w now qe is_mps e refused =
-    let least = segment_least (mq_written w qe is_mps) in
-    let refused' : limit < length (mq_written w qe is_mps).bytes = rw e at refused in
-    omega arith
-
--- the first byte of FLUSH, the second one, and the newest
-pub refused_first : (limit : ℕ) (w last : MqWriter) → last ≡ record w { c = mq_last_number w } → limit < length last.bytes → limit - 1 < length (mq_segment w)
-refused_first limit w last e refused =
-    let least = segment_least w in
-    let same : length last.bytes ≡ length w.bytes = ap (λ (x : MqWriter). length x.bytes) e in
-    omega arith
-
-pub refused_second : (limit : ℕ) (w last once : MqWriter) → IsCoder w → last ≡ record w { c = mq_last_number w } → once ≡ mq_given_out last → limit < length once.bytes → limit - 1 < length (mq_segment w)
-refused_second limit w last once h e f refused =
-    let some = given_some w.bytes h.coding.bounded.given in
-    let least = segment_least w in
-    let same : length last.bytes ≡ length w.bytes = ap (λ (x : MqWriter). length x.bytes) e in
-    let more = byte_out_more (record last { c = last.c * 2 ^ last.ct }) in
-    let long = more.long in
-    let now : length once.bytes ≡ length (mq_given_out last).bytes = ap (λ (x : MqWriter). length x.bytes) f in
-    omega arith
-
-pub refused_last : (limit : ℕ) (w last once twice : MqWriter) (newest : ℕ) (older : List ℕ) → IsCoder w → last ≡ record w { c = mq_last_number w } → once ≡ mq_given_out last → twice ≡ mq_given_out once →
-    twice.bytes ≡ newest ∷ reverse older → newest ≢ 255 → limit ≤ length older → limit - 1 < length (mq_segment w)
-refused_last limit w last once twice newest older h e f g bytes ne refused =
-    let some = given_some w.bytes h.coding.bounded.given in
-    let all : newest ∷ reverse older ≡ mq_flushed w = sym bytes ∙ ap (λ (x : MqWriter). x.bytes) g ∙ ap (λ (x : MqWriter). (mq_given_out x).bytes) f ∙ ap (λ (x : MqWriter). (mq_given_out (mq_given_out x)).bytes) e in
-    let kept : length (mq_trimmed (newest ∷ reverse older)) ≡ length (newest ∷ reverse older) = rw (ne_eqb newest 255 ne) refl in
-    let whole = segment_long w in
-    let trimmed : length (mq_trimmed (mq_flushed w)) ≡ length (mq_trimmed (newest ∷ reverse older)) = ap (λ (x : List ℕ). length (mq_trimmed x)) (sym all) in
-    let turned : length (reverse older) ≡ length older = length-reverse older in
-    let flushed = flushed_long w in
-    let same : length (newest ∷ reverse older) ≡ length (mq_flushed w) = ap (λ (x : List ℕ). length x) all in
     omega arith
 
 -- the bytes of a segment from those that were given out and the newest

@@ -1,12 +1,7 @@
--- What contracts see of an encoder, and the bounds of its registers.
+-- What the encoder's registers stand for, and their bounds.
 use Rattle.std.specs.Prelude.{◌≡◌, ◌<◌, ◌≤◌, ◌+◌, ◌*◌, ◌/◌, ◌^◌, ℕ, List, [], ◌∷◌, reverse}
 use Rattle.jx_coder_specs.specs.MqWriting.{MqWriter, mq_renormalized}
 use Rattle.jx_mq.specs.declared.encoder.Registers.{Registers}
-
--- the registers, and how many bytes the segment can have before more memory is needed
-pub record MqCoding : Type 0 where
-  pub writer : MqWriter
-  pub limit : ℕ
 
 -- the registers that the code's stand for, with the older bytes: its A is in the upper half of 32 bits
 abbrev pub writer_of : Registers → List ℕ → MqWriter

@@ -1,6 +1,6 @@
-ghost use Rattle.std.specs.Prelude.{◌≡◌, ◌-◌, ◌*◌, ◌/◌, ◌%◌, ◌^◌, ◌<◌, ◌≤◌, ◌==◌, ℕ, List, [], ◌∷◌, length, reverse, vec_len, vec_capacity, IfOk, OnOk, OnErr};
-ghost use Rattle.jx_coder_specs.specs.MqWriting.{mq_writer, mq_byte_out, mq_renormalized, mq_part, mq_wrote, mq_after_bit, mq_last_number, mq_given_out, mq_segment};
-ghost use Rattle.jx_mq.specs.Coding.{MqCoding, given, writer_of, IsCoding, IsCoder};
+ghost use Rattle.std.specs.Prelude.{◌≡◌, ◌*◌, ◌/◌, ◌%◌, ◌^◌, ◌<◌, ◌≤◌, ◌==◌, ℕ, List, [], ◌∷◌, reverse, IfOk, OnOk};
+ghost use Rattle.jx_coder_specs.specs.MqWriting.{MqWriter, mq_writer, mq_byte_out, mq_renormalized, mq_part, mq_wrote, mq_after_bit, mq_last_number, mq_given_out, mq_segment};
+ghost use Rattle.jx_mq.specs.Coding.{given, writer_of, IsCoding, IsCoder};
 ghost use Rattle.jx_mq.specs.Shifting.{mq_moved_by, IsShort};
 
 use crate::choice::{by_bit, unless};
@@ -14,9 +14,7 @@ use std::marker::Model;
 /// goes into the newest byte, and a byte after FF has seven bits.
 fn given_out(c: u32, newest: u8, older: &mut Vec<u8>) -> Result<(u32, u32, u8), NoMemory>
     requires { c < 268435456 }
-    ensures registers { IfOk result (λ r. given r.0 r.1 (r.2 ∷ reverse older.new.items) ≡ mq_byte_out (given c 0 (newest ∷ reverse older.old.items))) }
-    ensures limit { OnOk result (vec_capacity older.old ≤ vec_capacity older.new) }
-    ensures room { OnErr result (vec_capacity older.old ≤ vec_len older.old) }
+    ensures { IfOk result (λ r. given r.0 r.1 (r.2 ∷ reverse older.new.items) ≡ mq_byte_out (given c 0 (newest ∷ reverse older.old.items))) }
 {
     let carry = if newest == 0xFF { 0 } else { c >> 27 };
     let byte = newest + carry as u8;
@@ -59,8 +57,6 @@ impl Registers {
         requires { self.c < 268435456 }
         ensures registers { IfOk result (λ r. writer_of r older.new.items ≡ mq_byte_out (writer_of self older.old.items)) }
         ensures a { IfOk result (λ r. r.a ≡ self.a) }
-        ensures limit { OnOk result (vec_capacity older.old ≤ vec_capacity older.new) }
-        ensures room { OnErr result (vec_capacity older.old ≤ vec_len older.old) }
     {
         let (c, ct, newest) = given_out(self.c, self.newest, older)?;
         Ok(Registers {
@@ -101,8 +97,6 @@ impl Registers {
         ensures registers { IfOk result (λ r. writer_of r older.new.items ≡ mq_renormalized 15 (writer_of self older.old.items)) }
         ensures coder { IfOk result (λ r. IsCoder (writer_of r older.new.items)) }
         ensures wide { IfOk result (λ r. r.a % 65536 ≡ 0) }
-        ensures limit { OnOk result (vec_capacity older.old ≤ vec_capacity older.new) }
-        ensures room { OnErr result (vec_capacity older.old < length (mq_renormalized 15 (writer_of self older.old.items)).bytes) }
     {
         let mut now = self;
         let mut left = shifts;
@@ -127,8 +121,6 @@ impl Registers {
         ensures registers { OnOk result (writer_of self.new older.new.items ≡ mq_renormalized 15 (writer_of (record self.old { a = a; c = c }) older.old.items)) }
         ensures coder { OnOk result (IsCoder (writer_of self.new older.new.items)) }
         ensures wide { OnOk result (self.new.a % 65536 ≡ 0) }
-        ensures limit { OnOk result (vec_capacity older.old ≤ vec_capacity older.new) }
-        ensures room { OnErr result (vec_capacity older.old < length (mq_renormalized 15 (writer_of (record self.old { a = a; c = c }) older.old.items)).bytes) }
     {
         let part = Registers {
             a,
@@ -150,8 +142,6 @@ impl Registers {
         ensures registers { OnOk result (writer_of self.new older.new.items ≡ mq_renormalized 15 (writer_of part older.old.items)) }
         ensures coder { OnOk result (IsCoder (writer_of self.new older.new.items)) }
         ensures wide { OnOk result (self.new.a % 65536 ≡ 0) }
-        ensures limit { OnOk result (vec_capacity older.old ≤ vec_capacity older.new) }
-        ensures room { OnErr result (vec_capacity older.old < length (mq_renormalized 15 (writer_of part older.old.items)).bytes) }
     {
         let shifts = part.a.leading_zeros();
         if shifts >= part.ct {
@@ -207,9 +197,7 @@ impl Registers {
     fn give_out(self, older: &mut Vec<u8>) -> Result<Registers, NoMemory>
         requires room { self.c * 2 ^ self.ct < 268435456 }
         requires ct { self.ct ≤ 12 }
-        ensures registers { IfOk result (λ r. writer_of r older.new.items ≡ mq_given_out (writer_of self older.old.items)) }
-        ensures limit { OnOk result (vec_capacity older.old ≤ vec_capacity older.new) }
-        ensures room { OnErr result (vec_capacity older.old ≤ vec_len older.old) }
+        ensures { IfOk result (λ r. writer_of r older.new.items ≡ mq_given_out (writer_of self older.old.items)) }
     {
         let mut moved = self;
         moved.c <<= self.ct;
@@ -225,9 +213,9 @@ pub struct MqEncoder {
 }
 
 impl Model for MqEncoder {
-    ghost Value = { MqCoding };
+    ghost Value = { MqWriter };
 
-    ghost view = { λ e. record { writer = writer_of e.registers e.older.items; limit = vec_capacity e.older - 1 } };
+    ghost view = { λ e. writer_of e.registers e.older.items };
 
     ghost invariant = { λ e. (e.registers.a % 65536 ≡ 0) × IsCoder (writer_of e.registers e.older.items) };
 }
@@ -235,15 +223,14 @@ impl Model for MqEncoder {
 impl MqEncoder {
     /// An encoder that was given no decisions (Annex C.2.8).
     pub fn new(alloc: Global) -> MqEncoder
-        ensures { result.writer ≡ mq_writer }
+        ensures { result ≡ mq_writer }
     {
         MqEncoder::over(Vec::new(alloc))
     }
 
-    /// Such an encoder with room for a segment of so many bytes.
+    /// Such an encoder, which takes room for a segment of so many bytes at once. No clause says so: it is for speed.
     pub fn with_room(alloc: Global, bytes: usize) -> Result<MqEncoder, NoMemory>
-        ensures registers { IfOk result (λ e. e.writer ≡ mq_writer) }
-        ensures room { IfOk result (λ e. bytes ≤ e.limit) }
+        ensures { IfOk result (λ e. e ≡ mq_writer) }
     {
         let Some(room) = bytes.checked_add(1) else {
             return Err(NoMemory);
@@ -255,8 +242,7 @@ impl MqEncoder {
     /// An encoder over a list that is empty.
     fn over(older: Vec<u8>) -> MqEncoder
         requires { older.items ≡ [] }
-        ensures registers { result.writer ≡ mq_writer }
-        ensures limit { result.limit ≡ vec_capacity older - 1 }
+        ensures { result ≡ mq_writer }
     {
         MqEncoder {
             registers: Registers::first(),
@@ -264,16 +250,13 @@ impl MqEncoder {
         }
     }
 
-    /// Codes a decision under a label, which is below 19. It is refused only where the segment
-    /// outgrows its room. Then the encoder has lost its decisions, and it and the contexts are
-    /// given up.
+    /// Codes a decision under a label, which is below 19. Where memory is refused the encoder has
+    /// lost its decisions, and it and the contexts are given up.
     #[inline(always)]
     pub fn bit(&mut self, contexts: &mut Contexts, label: u8, bit: bool) -> Result<(), NoMemory>
         requires { label < 19 }
-        ensures contexts { OnOk result (contexts.new ≡ mq_after_bit self.old.writer contexts.old label bit) }
-        ensures registers { OnOk result (self.new.writer ≡ mq_wrote self.old.writer contexts.old label bit) }
-        ensures limit { OnOk result (self.old.limit ≤ self.new.limit) }
-        ensures room { OnErr result (self.old.limit < length (mq_segment (mq_wrote self.old.writer contexts.old label bit))) }
+        ensures contexts { OnOk result (contexts.new ≡ mq_after_bit self.old contexts.old label bit) }
+        ensures registers { OnOk result (self.new ≡ mq_wrote self.old contexts.old label bit) }
     {
         let state = contexts.state(label);
         let lps = (state % 2) as u32 ^ bit as u32;
@@ -289,11 +272,9 @@ impl MqEncoder {
         }
     }
 
-    /// The segment of all decisions (Annex C.2.9): its last byte is never FF. It is refused only where
-    /// the segment outgrows its room.
+    /// The segment of all decisions (Annex C.2.9): its last byte is never FF.
     pub fn flush(self) -> Result<Vec<u8>, NoMemory>
-        ensures segment { IfOk result (λ bytes. bytes.items ≡ mq_segment self.writer) }
-        ensures room { OnErr result (self.limit < length (mq_segment self.writer)) }
+        ensures { IfOk result (λ bytes. bytes.items ≡ mq_segment self) }
     {
         let MqEncoder {
             registers,

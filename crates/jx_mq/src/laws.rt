@@ -2,9 +2,10 @@
 
 ghost use Rattle.std.specs.Prelude.{◌≡◌, ◌<◌, ◌≤◌, ◌+◌, ◌*◌, ◌/◌, ℕ, List, [], ◌∷◌, ◌++◌, length, map, take};
 ghost use Rattle.jx_base.specs.Markers.{HasNoMarker};
-ghost use Rattle.jx_coder_specs.specs.MqTable.{MqContexts};
+ghost use Rattle.jx_coder_specs.specs.MqTable.{MqContexts, mq_fresh};
 ghost use Rattle.jx_coder_specs.specs.MqReading.{MqReader, MqAsked, MqDecisions, mq_byte, mq_decisions, mq_decisions_from, mq_looked};
 ghost use Rattle.jx_coder_specs.specs.MqWriting.{MqWriter, MqGiven, mq_written_from, mq_write, mq_contexts_after, mq_asked, mq_bits, mq_write_each, mq_bits_each, mq_contexts_left, mq_contexts_each};
+ghost use Rattle.jx_mq.specs.Pace.{spared_in};
 
 /// What the encoder writes of a list of decisions and resets, from any contexts, is read back by
 /// the decoder from the same contexts: the same bits, and the same contexts after. So are many
@@ -47,8 +48,11 @@ pub fn lists_go_on()
         mq_written_from w x (first ++ more) ≡ mq_written_from d.writer d.contexts more }
 {}
 
-/// A segment's length is bounded by the number of its decisions, of which each shifts the registers
-/// by 15 at most, while a byte takes seven shifts at least. So room can be taken for all of it.
+/// A segment's length is bounded by the number of its decisions: a byte takes seven shifts at least, and a decision six, beside those
+/// that decisions before it have spared. The less probable symbol takes up to 15, but only in rows that are reached by decisions with
+/// a shift each at most. New contexts have spared none.
 pub fn segments_are_short()
-    ensures { (x : MqContexts) → (given : List MqGiven) → length (mq_write x given) ≤ 15 * length given / 7 + 2 }
+    ensures paced { (x : MqContexts) → (given : List MqGiven) →
+        7 * length (mq_write x given) + spared_in (mq_contexts_after x given).rows ≤ 6 * length given + 14 + spared_in x.rows }
+    ensures fresh { (given : List MqGiven) → length (mq_write mq_fresh given) ≤ 6 * length given / 7 + 2 }
 {}

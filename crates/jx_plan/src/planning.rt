@@ -1,6 +1,6 @@
-//! The plan by a planner of layers that was handed in.
+//! The plan by the first of some planners of layers that serves the words.
 
-ghost use Rattle.std.specs.Prelude.{◌≡◌, ◌<◌, ◌≤◌, ◌^◌, ℕ, Option, length, slice_get, None, Some, IfErr, IfOk, IfSome, MatchOption, MatchResult, OnOk};
+ghost use Rattle.std.specs.Prelude.{◌≡◌, ◌<◌, ◌≤◌, ◌^◌, ℕ, Option, length, slice_get, None, Some, IfErr, IfOk, IfSome, MatchResult, OnOk};
 ghost use Rattle.std.specs.List.{All};
 ghost use Rattle.std.specs.Option.{option_map};
 ghost use Rattle.jx_base.specs.Sound.{IsSound};
@@ -161,45 +161,6 @@ fn check_wanted(
     }
 }
 
-/// Plans a codestream as the options ask: with the marks that they name, and the layers that the planner makes that serves
-/// their words; there is no such planner where none serves them. It is asked once for each coding pass, in the order of blocks
-/// and passes, before limit 7 or choice 4 is answered.
-///
-/// # Errors
-///
-/// Choice 1 exactly where a style is asked with another causal bit than that of a code-block whose passes end within a plane (ITU-T
-/// T.800, D.7), at the lowest such block. Else choices 3 and 2 exactly as `check_precincts` says. Else choice 6 at 0 exactly where
-/// there is no planner, or it makes no rule of the words; after these nothing was asked. Else limit 7 exactly where over 2^22
-/// packets would be written, one for each precinct and layer (B.9), with their number. Else choice 4 exactly where some layer would
-/// have over 164 passes of a code-block (B.10.6, Table B.4), at the lowest such block. Else choice 5 exactly where a tile would have
-/// over 255 tile-parts (A.4.2), at the lowest such tile. Else choice 10 at 0 exactly where TLM is asked and there would be over 2,795,776
-/// tile-parts (A.7.1). Else choice 11 exactly where the input's profile is kept and the file wouldn't have all of it (A.5.1), at the number
-/// of the first condition of profile 3 that fails (`first_unmet`), or at 0 where the profile is another than 0 and 3. `NoMemory` where
-/// memory is refused.
-pub fn plan<'a>(
-    alloc: Global,
-    stream: &'a Stream,
-    blocks: &'a [Block<'a>],
-    options: &'a Options,
-    planner: Option<&mut Box<dyn LayerPlanner>>,
-) -> Result<OutStream<'a>, PlanFault>
-    requires may { MayBePlanned stream.now blocks.now }
-    requires wanted { MayBeWanted options.now }
-    ensures planned { IfOk result (λ p. MatchOption planner.entry ⊥ (λ b. IsPlanned (rule_of b.now options.entry.now.layers (facts_of stream.entry.now blocks.entry.now)) stream.entry.now blocks.entry.now options.entry.now p)) }
-    ensures cause { IfErr result (λ e. MatchOption planner.entry (HasPlanCause None stream.entry.now blocks.entry.now options.entry.now e) (λ b. HasPlanCause (rule_of b.now options.entry.now.layers (facts_of stream.entry.now blocks.entry.now)) stream.entry.now blocks.entry.now options.entry.now e)) }
-{
-    if let Err(fault) = check_wanted(alloc, stream, blocks, options) {
-        return Err(fault);
-    }
-    match planner {
-        Some(planner) => plan_with(alloc, stream, blocks, options, planner),
-        None => Err(PlanFault::Choice {
-            number: 6,
-            place: 0,
-        }),
-    }
-}
-
 /// Whether a planner serves the words.
 fn does_serve(planner: &Box<dyn LayerPlanner>, words: &str) -> bool
     ensures { result ≡ serves_text planner.now words.now }
@@ -221,8 +182,21 @@ fn first_serving(planners: &[Box<dyn LayerPlanner>], words: &str) -> Option<usiz
     None
 }
 
-/// The plan by the first planner that serves the words; there is none where none does, which is choice 6 at 0 as in `plan`. No other
-/// planner begins or is asked.
+/// Plans a codestream as the options ask: with the marks that they name, and the layers that the first planner makes that serves
+/// their words. It is asked once for each coding pass, in the order of blocks and passes, before limit 7 or choice 4 is answered; no
+/// other planner begins or is asked.
+///
+/// # Errors
+///
+/// Choice 1 exactly where a style is asked with another causal bit than that of a code-block whose passes end within a plane (ITU-T
+/// T.800, D.7), at the lowest such block. Else choices 3 and 2 exactly as `check_precincts` says. Else choice 6 at 0 exactly where
+/// no planner serves the words, or the first that does makes no rule of them; after these nothing was asked. Else limit 7 exactly
+/// where over 2^22 packets would be written, one for each precinct and layer (B.9), with their number. Else choice 4 exactly where
+/// some layer would have over 164 passes of a code-block (B.10.6, Table B.4), at the lowest such block. Else choice 5 exactly where
+/// a tile would have over 255 tile-parts (A.4.2), at the lowest such tile. Else choice 10 at 0 exactly where TLM is asked and there would
+/// be over 2,795,776 tile-parts (A.7.1). Else choice 11 exactly where the input's profile is kept and the file wouldn't have all of it
+/// (A.5.1), at the number of the first condition of profile 3 that fails (`first_unmet`), or at 0 where the profile is another than 0 and
+/// 3. `NoMemory` where memory is refused.
 pub fn plan_served<'a>(
     alloc: Global,
     stream: &'a Stream,

@@ -8,14 +8,14 @@ ghost use Rattle.jx_tier2_writer.specs.Tile.{AreMade, AreValuesOf, made_in};
 
 use crate::checks::equal;
 use crate::hex::bytes_of;
-use crate::planned::{input, keeper};
+use crate::planned::{input, planners};
 use crate::values::bare_values;
 use jx_base::{Block, NoMemory};
 use jx_codeblock::Recoded;
 use jx_codestream::{MainView, Stream};
 use jx_layers::LayerPlanner;
 use jx_options::{Marks, Options, OrderChoice, PartChoice, PrecinctChoice, RsizChoice};
-use jx_plan::{OutStream, plan};
+use jx_plan::{OutStream, plan_served};
 use jx_store::Entry;
 use jx_tier2_writer::{AssembleFault, TileOut, assemble_tile, main_header, main_view, pack_tile};
 use std::alloc::{AllocError, Global};
@@ -197,14 +197,14 @@ fn is_planned(
     stream: &Stream,
     blocks: &[Block<'_>],
     options: &Options,
-    planner: &mut Box<dyn LayerPlanner>,
+    planners: &mut [Box<dyn LayerPlanner>],
     row: &Row,
 ) -> Option<bool>
     requires may { MayBePlanned stream.now blocks.now }
     requires wanted { MayBeWanted options.now }
     requires one { tile_number stream.now.siz ≡ 1 }
 {
-    match plan(alloc, stream, blocks, options, Some(planner)) {
+    match plan_served(alloc, stream, blocks, options, planners) {
         Ok(plan) => is_kept_by(alloc, &plan, row),
         Err(_) => None,
     }
@@ -224,8 +224,9 @@ fn is_kept_of(
     if stream.tile_count() != 1 {
         return None;
     }
-    match keeper(alloc) {
-        Ok(mut planner) => is_planned(alloc, stream, blocks, options, &mut planner, row),
+    // The one that keeps layers.
+    match planners(alloc, &[0]) {
+        Ok(mut planners) => is_planned(alloc, stream, blocks, options, &mut planners, row),
         Err(_) => None,
     }
 }

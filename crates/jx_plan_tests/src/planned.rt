@@ -14,7 +14,7 @@ use jx_codeblock::Job;
 use jx_codestream::{Stream, Tile, read_stream};
 use jx_layers::{CutLayers, KeepLayers, LayerPlanner, OneLayer, TableLayers};
 use jx_options::{Marks, Options, OrderChoice, PrecinctChoice, RsizChoice};
-use jx_plan::{OutStream, PlanFault, first_misfit, plan, plan_served};
+use jx_plan::{OutStream, PlanFault, first_misfit, plan_served};
 use jx_tier2_reader::gather;
 use std::alloc::{AllocError, Global};
 
@@ -24,8 +24,7 @@ pub(crate) struct Ask {
     /// The words for the planners.
     pub words: &'static str,
     /// The planners, each by its number: that which keeps layers; one of a table, by which the second block's passes come into a second
-    /// layer where the words are `one`; that of one layer; that of cuts. Where there is just one, it is handed in, whether or not it
-    /// serves the words.
+    /// layer where the words are `one`; that of one layer; that of cuts.
     pub planners: &'static [u8],
     pub style: AskStyle,
     /// Whether the order is to be CPRL; else it is kept.
@@ -111,8 +110,7 @@ fn options_of(alloc: Global, ask: &Ask) -> Result<Options, AllocError>
     })
 }
 
-/// The planner that keeps layers.
-pub(crate) fn keeper(alloc: Global) -> Result<Box<dyn LayerPlanner>, NoMemory> {
+fn keeper(alloc: Global) -> Result<Box<dyn LayerPlanner>, NoMemory> {
     let planner: Box<dyn LayerPlanner> = Box::new(alloc, KeepLayers::new())?;
     Ok(planner)
 }
@@ -142,7 +140,8 @@ fn planner(alloc: Global, which: u8) -> Result<Box<dyn LayerPlanner>, NoMemory> 
     }
 }
 
-fn planners(alloc: Global, order: &[u8]) -> Result<Vec<Box<dyn LayerPlanner>>, NoMemory> {
+/// Planners by their numbers.
+pub(crate) fn planners(alloc: Global, order: &[u8]) -> Result<Vec<Box<dyn LayerPlanner>>, NoMemory> {
     let mut list = Vec::new(alloc);
     for which in order {
         let planner = planner(alloc, *which)?;
@@ -239,14 +238,7 @@ fn is_planned(
     requires may { MayBePlanned stream.now blocks.now }
     requires wanted { MayBeWanted options.now }
 {
-    if planners.len() == 1 {
-        is_wanted(
-            &plan(alloc, stream, blocks, options, Some(&mut planners[0])),
-            want,
-        )
-    } else {
-        is_wanted(&plan_served(alloc, stream, blocks, options, planners), want)
-    }
+    is_wanted(&plan_served(alloc, stream, blocks, options, planners), want)
 }
 
 fn is_planned_of(

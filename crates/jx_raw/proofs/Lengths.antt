@@ -1,13 +1,11 @@
 -- How many bytes raw bits make.
-use Rattle.std.proofs.Common.{◌≡◌, ◌<◌, ◌≤◌, ◌+◌, ◌-◌, ◌*◌, ◌/◌, ◌^◌, ℕ, zero, suc, Bool, true, false, inl, inr, List, [], ◌∷◌, ◌++◌, length, take, drop, refl, arith, eqb, ◌==◌, if◌then◌else◌, Vec, vec_len, vec_capacity, length-append, length-drop}
+use Rattle.std.proofs.Common.{◌≡◌, ◌<◌, ◌≤◌, ◌+◌, ◌-◌, ◌*◌, ◌/◌, ◌^◌, ℕ, zero, suc, Bool, true, false, inl, inr, List, [], ◌∷◌, ◌++◌, length, take, drop, refl, arith, eqb, ◌==◌, if◌then◌else◌, length-drop}
 use Rattle.std.proofs.lemmas.Bool.Decides.{nat_tests}
 use Rattle.std.proofs.lemmas.Bool.{cases_lt}
 use Rattle.std.proofs.lemmas.List.{take_all, drop_all}
 use Rattle.jx_coder_specs.specs.RawBits.{raw_width, byte_of, number_of, raw_write_after, raw_write}
-use Rattle.jx_raw.specs.RawWriting.{bits_written, IsBegun}
 use Rattle.jx_raw.proofs.Reading.{room}
-use Rattle.jx_raw.proofs.Back.{even_not_ff, tail_of}
-use Rattle.jx_raw.proofs.Writing.{one_if, whole, whole_bits}
+use Rattle.jx_raw.proofs.Back.{even_not_ff}
 
 -- a byte 00 follows a last FF
 abbrev extra : ℕ → ℕ
@@ -55,24 +53,3 @@ most_after (suc n) before (bit ∷ bits) =
 
 pub short_segment : (bits : List Bool) → length (raw_write bits) ≤ (length bits + 6) / 7
 short_segment bits = let most : 7 * length (raw_write bits) ≤ length bits + 6 + 0 = most_after (suc (length bits)) 0 bits in omega arith
-
--- whole bytes are in the segment
-at_least : (bytes : List ℕ) (partial count width : ℕ) → IsBegun bytes partial count width → length bytes ≤ length (raw_write (bits_written bytes partial count))
-at_least bytes partial count width h =
-    rw (tail_of bytes partial count width (suc count) h (omega arith), length-append) (omega arith)
-
--- so is the byte that a bit makes whole
-pub one_longer : (bytes : List ℕ) (partial count width : ℕ) (bit : Bool) → width ≤ count + 1 → IsBegun bytes partial count width →
-    length bytes < length (raw_write (bits_written bytes partial count ++ bit ∷ []))
-one_longer bytes partial count width bit full h =
-    let byte : ℕ = partial * 2 + one_if bit in
-    let least = at_least (bytes ++ byte ∷ []) 0 0 (raw_width byte) (whole bytes partial count width bit full h) in
-    let long : length (bytes ++ byte ∷ []) ≡ length bytes + 1 = rw length-append refl in
-    rw (← whole_bits bytes partial count width bit full h) (omega arith)
-
--- a push that is refused for want of room
-pub refused : {Z : Type 0} (bytes : Vec ℕ Z) (all : List ℕ) (byte : ℕ) → all ≡ bytes.items ++ byte ∷ [] → vec_capacity bytes ≤ vec_len bytes → vec_capacity bytes < length all
-refused bytes all byte is full =
-    let long : vec_len bytes ≡ length bytes.items = bytes.ok.0 in
-    let longer : length (bytes.items ++ byte ∷ []) ≡ length bytes.items + 1 = rw length-append refl in
-    rw is (omega arith)

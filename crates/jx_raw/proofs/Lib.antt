@@ -1,7 +1,7 @@
 pub mod Agreeing
 pub mod Back
 mod Bytes
-mod Lengths
+pub mod Lengths
 pub mod Looking
 pub mod Reading
 mod Writing

@@ -1,12 +1,7 @@
--- What contracts see of a writer of raw bits, and how its registers stand for it.
+-- How the registers of a writer of raw bits stand for the bits written.
 use Rattle.std.specs.Prelude.{◌≡◌, ◌<◌, ℕ, ◌^◌, Bool, List, [], ◌∷◌, ◌++◌}
 use Rattle.jx_coder_specs.specs.RawBits.{raw_width, raw_bits, bits_of}
 use Rattle.jx_base.specs.Markers.{last_after}
-
--- the bits written, and how many bytes the segment can have before more memory is needed
-pub record RawBegun : Type 0 where
-  pub bits : List Bool
-  pub limit : ℕ
 
 -- each byte has no more bits than its place allows
 abbrev pub AreStuffed : ℕ → List ℕ → Type 0

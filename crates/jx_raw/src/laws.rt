@@ -23,8 +23,7 @@ pub fn raw_bits_one_by_one()
         raw_looked segment n ≤ k → raw_read (take k segment) n ≡ raw_read segment n }
 {}
 
-/// A segment has no more bytes than its bits make at seven in a byte. So room for that many bytes is
-/// room for all of them.
+/// A segment has no more bytes than its bits make at seven in a byte.
 pub fn raw_segments_are_short()
     ensures { (bits : List Bool) → length (raw_write bits) ≤ (length bits + 6) / 7 }
 {}

@@ -1,15 +1,14 @@
 //! Raw bits, written (T.800, D.6).
 
-ghost use Rattle.std.specs.Prelude.{◌≡◌, ◌<◌, ◌≤◌, ℕ, Bool, List, [], ◌∷◌, ◌++◌, length, vec_capacity, IfOk, OnOk, OnErr};
+ghost use Rattle.std.specs.Prelude.{◌≡◌, Bool, List, [], ◌∷◌, ◌++◌, IfOk, OnOk};
 ghost use Rattle.jx_coder_specs.specs.RawBits.{raw_write};
-ghost use Rattle.jx_raw.specs.RawWriting.{RawBegun, bits_written, IsBegun};
+ghost use Rattle.jx_raw.specs.RawWriting.{bits_written, IsBegun};
 
 use jx_base::NoMemory;
 use std::alloc::Global;
 use std::marker::Model;
 
-/// A writer of raw bits into one segment. Contracts see it as the list of the bits written, and how
-/// many bytes the segment can have before the writer needs more memory.
+/// A writer of raw bits into one segment. Contracts see it as the list of the bits written.
 #[derive(Drop)]
 pub struct RawWriter {
     bytes: Vec<u8>,
@@ -19,9 +18,9 @@ pub struct RawWriter {
 }
 
 impl Model for RawWriter {
-    ghost Value = { RawBegun };
+    ghost Value = { List Bool };
 
-    ghost view = { λ w. record { bits = bits_written w.bytes.items w.partial w.count; limit = vec_capacity w.bytes } };
+    ghost view = { λ w. bits_written w.bytes.items w.partial w.count };
 
     ghost invariant = { λ w. IsBegun w.bytes.items w.partial w.count w.width };
 }
@@ -29,41 +28,20 @@ impl Model for RawWriter {
 impl RawWriter {
     /// A writer that has no bits yet.
     pub fn new(alloc: Global) -> RawWriter
-        ensures { result.bits ≡ [] }
-    {
-        RawWriter::over(Vec::new(alloc))
-    }
-
-    /// Such a writer with room for a segment of so many bytes.
-    pub fn with_room(alloc: Global, bytes: usize) -> Result<RawWriter, NoMemory>
-        ensures bits { IfOk result (λ w. w.bits ≡ []) }
-        ensures room { IfOk result (λ w. bytes ≤ w.limit) }
-    {
-        let room = Vec::with_capacity(alloc, bytes)?;
-        Ok(RawWriter::over(room))
-    }
-
-    /// A writer over a list that is empty.
-    fn over(bytes: Vec<u8>) -> RawWriter
-        requires { bytes.items ≡ [] }
-        ensures bits { result.bits ≡ [] }
-        ensures limit { result.limit ≡ vec_capacity bytes }
+        ensures { result ≡ [] }
     {
         RawWriter {
-            bytes,
+            bytes: Vec::new(alloc),
             partial: 0,
             count: 0,
             width: 8,
         }
     }
 
-    /// Appends a bit. It is refused only where the segment outgrows its room, and then the writer is
-    /// given up.
+    /// Appends a bit. Where memory is refused the writer is given up.
     #[inline(always)]
     pub fn bit(&mut self, bit: bool) -> Result<(), NoMemory>
-        ensures bits { OnOk result (self.new.bits ≡ self.old.bits ++ bit ∷ []) }
-        ensures limit { OnOk result (self.old.limit ≤ self.new.limit) }
-        ensures room { OnErr result (self.old.limit < length (raw_write (self.old.bits ++ bit ∷ []))) }
+        ensures { OnOk result (self.new ≡ self.old ++ bit ∷ []) }
     {
         let byte = self.partial * 2 + u8::from(bit);
         if self.count + 1 < self.width {
@@ -78,11 +56,9 @@ impl RawWriter {
         Ok(())
     }
 
-    /// The segment: zeros fill the last byte, and a byte 00 follows a last FF. It is refused only where
-    /// the segment outgrows its room.
+    /// The segment: zeros fill the last byte, and a byte 00 follows a last FF.
     pub fn finish(self) -> Result<Vec<u8>, NoMemory>
-        ensures segment { IfOk result (λ bytes. bytes.items ≡ raw_write self.bits) }
-        ensures room { OnErr result (self.limit < length (raw_write self.bits)) }
+        ensures { IfOk result (λ bytes. bytes.items ≡ raw_write self) }
     {
         let RawWriter {
             mut bytes,

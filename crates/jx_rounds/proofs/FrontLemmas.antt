@@ -1,12 +1,9 @@
 -- Fronts of a file, tile by tile, and the rounds in which they are written.
 use Rattle.std.proofs.Common.{◌≡◌, ◌∙◌, ◌<◌, ◌≤◌, ◌+◌, ◌^◌, nat_lt, ℕ, List, [], ◌∷◌, ◌++◌, length, map, refl, ap, sym, subst, arith, inl, inr, append_assoc, append-nil, add-one, Option, None, Some}
-use Rattle.std.specs.List.{concat, flat_map}
+use Rattle.std.specs.List.{concat}
 use Rattle.std.proofs.lemmas.Bool.{cases_eq}
 use Rattle.std.proofs.lemmas.Bool.Decides.{nat_tests}
-use Rattle.std.proofs.lemmas.Grind.{flat_map-append}
-use Rattle.std.proofs.lemmas.List.Concat.{concat_is}
 use Rattle.std.proofs.lemmas.List.Elements.{All-cons, All-head, All-tail}
-use Rattle.std.proofs.lemmas.List.Folds.{concat-append, flat_map-map}
 use Rattle.jx_base.specs.Joined.{joined}
 use Rattle.jx_base.proofs.Joined.{joined_next, joined_none, joined_same}
 use Rattle.jx_base.proofs.Sums.{sum_below_more, sum_below_next}
@@ -24,9 +21,9 @@ use Rattle.jx_plan.specs.Headers.{stream_written}
 use Rattle.jx_plan.specs.Plan.{IsPlan, MayBePlanned, Plan, headers_of, headers_with}
 use Rattle.jx_options.specs.Wanted.{Wanted}
 use Rattle.jx_tier2_writer.specs.Ready.{AreShort}
-use Rattle.jx_tier2_writer.specs.Tile.{AreAtMost, IsTile, blocks_in, first_block, main_bytes}
+use Rattle.jx_tier2_writer.specs.Tile.{AreAtMost, IsTile, blocks_in, first_block}
 use Rattle.jx_tier2_writer.specs.TileParts.{AreTilePartsOf}
-use Rattle.jx_rounds.specs.MadeRounds.{parts_of}
+use Rattle.jx_rounds.specs.Sent.{PartSent, sent_from, sent_of}
 use Rattle.jx_rounds.specs.Rounds.{BeginsRound, IsInRound, IsRightTile, IsShortFront, IsSpoiledFrom, IsUnmade, IsUnmadeTile, LeadOn, blocks_of, most_of_part, with_parts}
 use Rattle.jx_rounds.specs.declared.halt.Halt.{Halt}
 use Rattle.jx_rounds.specs.declared.halt.Halt.TheVariants as halt
@@ -51,32 +48,27 @@ own_parts parts at next = grind (arith, nat_tests)
 other_parts : (parts : ℕ → List TilePart) (at : ℕ) (next : List TilePart) (t : ℕ) → t < at → with_parts parts at next t ≡ parts t
 other_parts parts at next t h = grind (arith, nat_tests)
 
-pub front_none : (p : Plan) → IsShortFront p 0 (main_bytes (headers_of p))
-front_none p =
-    let none : joined {X = TilePart} (λ (t : ℕ). []) 0 0 ≡ [] = joined_none (λ (t : ℕ). []) 0 0 (omega arith) in
-    let bytes : List TilePart → List ℕ = flat_map (part_bytes (length p.stream.siz.comps)) in
-    record {
-      parts = λ t. [];
-      right = λ t h. absurd (omega (arith, h));
-      are = λ t h. absurd (omega (arith, h));
-      short = λ t h. absurd (omega (arith, h));
-      bytes_are = sym (ap (λ (ps : List TilePart). main_bytes (headers_of p) ++ bytes ps) none ∙ append-nil (main_bytes (headers_of p)));
-    }
+-- the tile-parts of each tile, as they are written
+abbrev pub sent_by : Plan → (ℕ → List TilePart) → ℕ → List PartSent
+sent_by p parts t = sent_of t (map (part_bytes (length p.stream.siz.comps)) (parts t))
 
--- the bytes of tile-parts, joined
-parts_joined : (comps : ℕ) (parts : List TilePart) → concat (map (part_bytes comps) parts) ≡ flat_map (part_bytes comps) parts
-parts_joined comps parts = concat_is (map (part_bytes comps) parts) ∙ flat_map-map (λ (x : List ℕ). x) (part_bytes comps) parts
+pub front_none : (p : Plan) → IsShortFront p 0 []
+front_none p = record {
+  parts = λ t. [];
+  right = λ t h. absurd (omega (arith, h));
+  are = λ t h. absurd (omega (arith, h));
+  short = λ t h. absurd (omega (arith, h));
+  sent_are = sym (joined_none (sent_by p (λ t. [])) 0 0 (omega arith));
+}
 
-front_with : (p : Plan) (t : ℕ) (bytes : List ℕ) (own : List TilePart) → IsShortFront p t bytes → IsRightTile p t → AreTilePartsOf p.wanted.marks (headers_of p) (blocks_of p) t own → AreShort own
-    → IsShortFront p (t + 1) (bytes ++ flat_map (part_bytes (length p.stream.siz.comps)) own)
-front_with p t bytes own done right are short =
+front_with : (p : Plan) (t : ℕ) (sent : List PartSent) (own : List TilePart) → IsShortFront p t sent → IsRightTile p t → AreTilePartsOf p.wanted.marks (headers_of p) (blocks_of p) t own → AreShort own
+    → IsShortFront p (t + 1) (sent ++ sent_of t (map (part_bytes (length p.stream.siz.comps)) own))
+front_with p t sent own done right are short =
     let parts : ℕ → List TilePart = with_parts done.parts t own in
-    let f : TilePart → List ℕ = part_bytes (length p.stream.siz.comps) in
-    let main : List ℕ = main_bytes (headers_of p) in
-    let front : joined parts 0 t ≡ joined done.parts 0 t = joined_same parts done.parts t (λ i h. other_parts done.parts t own i h) in
+    let f : List TilePart → List PartSent = λ ps. sent_of t (map (part_bytes (length p.stream.siz.comps)) ps) in
+    let front : joined (sent_by p parts) 0 t ≡ joined (sent_by p done.parts) 0 t =
+    joined_same (sent_by p parts) (sent_by p done.parts) t (λ i h. ap (λ (ps : List TilePart). sent_of i (map (part_bytes (length p.stream.siz.comps)) ps)) (other_parts done.parts t own i h)) in
     let last : parts t ≡ own = own_parts done.parts t own in
-    let all : joined parts 0 (t + 1) ≡ joined done.parts 0 t ++ own =
-    joined_next parts 0 t (omega arith) ∙ ap (λ (xs : List TilePart). xs ++ parts t) front ∙ ap (λ (xs : List TilePart). joined done.parts 0 t ++ xs) last in
     record {
       parts = parts;
       right = λ i h. elim (cases_eq i t) [
@@ -91,30 +83,35 @@ front_with p t bytes own done right are short =
         | inl e ↦ subst (λ (n : ℕ). AreShort (parts n)) (sym e) (subst AreShort (sym last) short)
         | inr e ↦ subst AreShort (sym (other_parts done.parts t own i (omega (arith, h, e)))) (done.short i (omega (arith, h, e)))
       ];
-      bytes_are = ap (λ (b : List ℕ). b ++ flat_map f own) done.bytes_are ∙ append_assoc main (flat_map f (joined done.parts 0 t)) (flat_map f own)
-          ∙ ap (λ (b : List ℕ). main ++ b) (sym (flat_map-append f (joined done.parts 0 t) own)) ∙ ap (λ (ps : List TilePart). main ++ flat_map f ps) (sym all);
+      sent_are = ap (λ (b : List PartSent). b ++ f own) (done.sent_are ∙ sym front) ∙ ap (λ (ps : List TilePart). joined (sent_by p parts) 0 t ++ f ps) (sym last)
+          ∙ sym (joined_next (sent_by p parts) 0 t (omega arith));
     }
 
-pub tile_leads : (p : Plan) (t : ℕ) (pieces : List (List ℕ)) → IsRightTile p t → IsTile p (blocks_of p) t most_of_part pieces → LeadOn p t (t + 1) pieces
-tile_leads p t pieces right tile bytes front =
-    let whole : concat pieces ≡ flat_map (part_bytes (length p.stream.siz.comps)) tile.parts = ap concat tile.bytes_are ∙ parts_joined (length p.stream.siz.comps) tile.parts in
-    subst (λ (more : List ℕ). IsShortFront p (t + 1) (bytes ++ more)) (sym whole) (front_with p t bytes tile.parts front right tile.are (short_at_most tile.parts tile.short))
+pub tile_leads : (p : Plan) (t : ℕ) (strings : List (List ℕ)) → IsRightTile p t → IsTile p (blocks_of p) t most_of_part strings → LeadOn p t (t + 1) (sent_of t strings)
+tile_leads p t strings right tile sent front =
+    subst (λ (more : List (List ℕ)). IsShortFront p (t + 1) (sent ++ sent_of t more)) (sym tile.bytes_are) (front_with p t sent tile.parts front right tile.are (short_at_most tile.parts tile.short))
 
 pub lead_none : (p : Plan) (t : ℕ) → LeadOn p t t []
-lead_none p t bytes front = subst (IsShortFront p t) (sym (append-nil bytes)) front
+lead_none p t sent front = subst (IsShortFront p t) (sym (append-nil sent)) front
 
-lead_next : (p : Plan) (from t next : ℕ) (pieces more : List (List ℕ)) → LeadOn p from t pieces → LeadOn p t next more → LeadOn p from next (pieces ++ more)
-lead_next p from t next pieces more first later bytes front =
-    let both : bytes ++ concat (pieces ++ more) ≡ (bytes ++ concat pieces) ++ concat more =
-    ap (λ (b : List ℕ). bytes ++ b) (concat-append pieces more) ∙ sym (append_assoc bytes (concat pieces) (concat more)) in
-    subst (IsShortFront p next) (sym both) (later (bytes ++ concat pieces) (first bytes front))
+pub lead_next : (p : Plan) (from t next : ℕ) (more later : List PartSent) → LeadOn p from t more → LeadOn p t next later → LeadOn p from next (more ++ later)
+lead_next p from t next more later first second sent front = subst (IsShortFront p next) (append_assoc sent more later) (second (sent ++ more) (first sent front))
 
-pub lead_tile : (p : Plan) (from t next : ℕ) (tiles : List (List (List (List ℕ)))) (tile : List (List (List ℕ))) (all : List (List (List (List ℕ)))) → all ≡ tiles ++ tile ∷ []
-    → LeadOn p from t (parts_of tiles) → LeadOn p t next (map concat tile) → LeadOn p from next (parts_of all)
-lead_tile p from t next tiles tile all is first later =
-    let both : parts_of all ≡ parts_of tiles ++ map concat tile =
-    ap parts_of is ∙ flat_map-append (map concat) tiles (tile ∷ []) ∙ ap (λ (parts : List (List ℕ)). parts_of tiles ++ parts) (append-nil (map concat tile)) in
-    subst (LeadOn p from next) (sym both) (lead_next p from t next (parts_of tiles) (map concat tile) first later)
+-- one tile more
+sent_more : (t : ℕ) (tiles : List (List (List (List ℕ)))) (tile : List (List (List ℕ))) → sent_from t (tiles ++ tile ∷ []) ≡ sent_from t tiles ++ sent_of (t + length tiles) (map concat tile)
+sent_more t [] tile = let here : t + 0 ≡ t = omega arith in rw here (append-nil (sent_of t (map concat tile)))
+sent_more t (first ∷ tiles) tile =
+    let own : List PartSent = sent_of t (map concat first) in
+    let here : (t + 1) + length tiles ≡ t + length (first ∷ tiles) = omega arith in
+    ap (λ (s : List PartSent). own ++ s) (sent_more (t + 1) tiles tile) ∙ ap (λ (n : ℕ). own ++ (sent_from (t + 1) tiles ++ sent_of n (map concat tile))) here
+    ∙ sym (append_assoc own (sent_from (t + 1) tiles) (sent_of (t + length (first ∷ tiles)) (map concat tile)))
+
+pub lead_tile : (p : Plan) (from t next : ℕ) (tiles : List (List (List (List ℕ)))) (tile : List (List (List ℕ))) (all : List (List (List (List ℕ)))) → all ≡ tiles ++ tile ∷ [] → from + length tiles ≡ t
+    → LeadOn p from t (sent_from from tiles) → LeadOn p t next (sent_of t (map concat tile)) → LeadOn p from next (sent_from from all)
+lead_tile p from t next tiles tile all is count first later =
+    let both : sent_from from all ≡ sent_from from tiles ++ sent_of t (map concat tile) =
+    ap (sent_from from) is ∙ sent_more from tiles tile ∙ ap (λ (n : ℕ). sent_from from tiles ++ sent_of n (map concat tile)) count in
+    subst (LeadOn p from next) (sym both) (lead_next p from t next (sent_from from tiles) (sent_of t (map concat tile)) first later)
 
 -- ---- rounds
 pub round_none : (p : Plan) → BeginsRound p 0
@@ -157,24 +154,24 @@ blocks_few p t plan inside =
     omega (arith, sum_below_more (blocks_in p) t (tile_number p.stream.siz) inside, blocks_are p.stream, plan.all, plan.may.blocks_are.all)
 
 -- ---- a round that isn't made
-pub unmade_of : (p : Plan) (start at held : ℕ) (pieces : List (List ℕ)) (h : Halt) → at < tile_number p.stream.siz → IsInRound p at start held → LeadOn p start at pieces
+pub unmade_of : (p : Plan) (start at held : ℕ) (more : List PartSent) (h : Halt) → at < tile_number p.stream.siz → IsInRound p at start held → LeadOn p start at more
     → IsUnmadeTile p at h → IsUnmade p start h
-unmade_of p start at held pieces (halt.Bad tile number) inside round lead spoiled = subst (λ (n : ℕ). IsSpoiledFrom p start (halt.Bad n number) n) (sym spoiled.0) (record {
+unmade_of p start at held more (halt.Bad tile number) inside round lead spoiled = subst (λ (n : ℕ). IsSpoiledFrom p start (halt.Bad n number) n) (sym spoiled.0) (record {
   inside = inside;
   spoiled = (refl, spoiled.1);
   held = held;
   round = round;
-  below = λ bytes front. (bytes ++ concat pieces, lead bytes front);
+  below = λ sent front. (sent ++ more, lead sent front);
 })
-unmade_of p start at held pieces (halt.TooLong tile) inside round lead spoiled = subst (λ (n : ℕ). IsSpoiledFrom p start (halt.TooLong n) n) (sym spoiled.0) (record {
+unmade_of p start at held more (halt.TooLong tile) inside round lead spoiled = subst (λ (n : ℕ). IsSpoiledFrom p start (halt.TooLong n) n) (sym spoiled.0) (record {
   inside = inside;
   spoiled = (refl, spoiled.1, spoiled.2);
   held = held;
   round = round;
-  below = λ bytes front. (bytes ++ concat pieces, lead bytes front);
+  below = λ sent front. (sent ++ more, lead sent front);
 })
-unmade_of p start at held pieces halt.Failed inside round lead never = absurd never
-unmade_of p start at held pieces halt.NoMemory inside round lead free = tt
+unmade_of p start at held more halt.Failed inside round lead never = absurd never
+unmade_of p start at held more halt.NoMemory inside round lead free = tt
 
 -- ---- the headers that are written have the tiles and components of their stream
 pub tiles_stay : (w : Wanted) (layers : ℕ) (s : Stream) → tile_number (headers_with w layers s).siz ≡ tile_number s.siz

@@ -18,7 +18,7 @@ nothing_left (Ok x) old new bytes rest wrote none =
 nothing_left (Err h) old new bytes rest wrote none = tt
 
 -- ---- one more
-cut_at : {X : Type 0} (xs : List X) (i : ℕ) (d : X) → i < length xs → drop i xs ≡ slice_index_or xs i d ∷ drop (i + 1) xs
+pub cut_at : {X : Type 0} (xs : List X) (i : ℕ) (d : X) → i < length xs → drop i xs ≡ slice_index_or xs i d ∷ drop (i + 1) xs
 cut_at {X} xs i d lt =
     let next : suc i ≡ i + 1 = omega arith in
     drop-cons xs i d lt ∙ ap (λ (k : ℕ). slice_index_or xs i d ∷ drop k xs) next

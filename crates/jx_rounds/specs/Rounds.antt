@@ -1,6 +1,7 @@
--- What has been written of a plan, tile by tile: the main header, and the tile-parts of the first tiles; and where a round ends.
+-- What has been written of a plan, tile by tile: a head, which stands before the first tile-part, and the tile-parts of the first tiles; and
+-- where a round ends.
 use Rattle.std.specs.Prelude.{◌≡◌, ◌⊎◌, ◌<◌, ◌≤◌, ◌+◌, ◌-◌, ◌^◌, ℕ, List, Option, ◌++◌, drop, length, map, take, if◌then◌else◌, ◌==◌}
-use Rattle.std.specs.List.{All, concat, flat_map}
+use Rattle.std.specs.List.{All}
 use Rattle.jx_base.specs.Joined.{joined}
 use Rattle.jx_base.specs.declared.pieces.Block.{Block}
 use Rattle.jx_codeblock.specs.Recoded.{WrittenBlock}
@@ -16,9 +17,11 @@ use Rattle.jx_plan.specs.Plan.{Plan, headers_of}
 use Rattle.jx_options.specs.Work.{Work}
 use Rattle.jx_codestream.specs.First.{tile_number}
 use Rattle.jx_codestream.specs.Spells.{TilePart, part_bytes}
+use Rattle.jx_tier2_writer.specs.declared.index.PartLength.{PartLength}
 use Rattle.jx_tier2_writer.specs.Ready.{AreShort}
-use Rattle.jx_tier2_writer.specs.Tile.{IsTooLong, blocks_in, first_block, main_bytes}
+use Rattle.jx_tier2_writer.specs.Tile.{IsTooLong, blocks_in, first_block}
 use Rattle.jx_tier2_writer.specs.TileParts.{AreTilePartsOf}
+use Rattle.jx_rounds.specs.Sent.{PartSent, bytes_sent, lengths_behind, sent_of}
 use Rattle.jx_rounds.specs.Taken.{SomeFront, followed_by}
 use Rattle.jx_rounds.specs.Tiles.{IsRight, IsWrongAt, round_of}
 use Rattle.jx_rounds.specs.Tapes.{IsTapeOf, setup_of}
@@ -55,21 +58,21 @@ pub record HasTape (p : Plan) (work : Work) (blocks : ℕ) (tape : List TapeEntr
   pub of : IsTapeOf work p.blocks tape
   pub long : length tape ≡ blocks
 
--- the main header and the tile-parts of the first tiles, none of which is too long, and of which no block is wrong
-pub record IsShortFront (p : Plan) (tiles : ℕ) (bytes : List ℕ) : Type 0 where
+-- the tile-parts of the first tiles, none of which is too long, and of which no block is wrong
+pub record IsShortFront (p : Plan) (tiles : ℕ) (sent : List PartSent) : Type 0 where
   pub parts : ℕ → List TilePart
   pub right : (t : ℕ) → t < tiles → IsRightTile p t
   pub are : (t : ℕ) → t < tiles → AreTilePartsOf p.wanted.marks (headers_of p) (blocks_of p) t (parts t)
   pub short : (t : ℕ) → t < tiles → AreShort (parts t)
-  pub bytes_are : bytes ≡ main_bytes (headers_of p) ++ flat_map (part_bytes (length p.stream.siz.comps)) (joined parts 0 tiles)
+  pub sent_are : sent ≡ joined (λ (t : ℕ). sent_of t (map (part_bytes (length p.stream.siz.comps)) (parts t))) 0 tiles
 
--- pieces that lead from a front to a longer one
-abbrev pub LeadOn : Plan → ℕ → ℕ → List (List ℕ) → Type 0
-LeadOn p tile next pieces = (bytes : List ℕ) → IsShortFront p tile bytes → IsShortFront p next (bytes ++ concat pieces)
+-- tile-parts that lead from a front to a longer one
+abbrev pub LeadOn : Plan → ℕ → ℕ → List PartSent → Type 0
+LeadOn p tile next more = (sent : List PartSent) → IsShortFront p tile sent → IsShortFront p next (sent ++ more)
 
 -- each tile from one on below another is written, as far as a front is
 abbrev pub GoesOn : Plan → ℕ → ℕ → Type 0
-GoesOn p tile next = (bytes : List ℕ) → IsShortFront p tile bytes → (more : List ℕ) × IsShortFront p next more
+GoesOn p tile next = (sent : List PartSent) → IsShortFront p tile sent → (more : List PartSent) × IsShortFront p next more
 
 -- a round begins at a tile
 abbrev pub BeginsRound : Plan → ℕ → Type 0
@@ -88,25 +91,27 @@ pub record IsPlace (p : Plan) (tile block : ℕ) : Type 0 where
   pub inside : tile ≤ tile_number p.stream.siz
   pub block_is : block ≡ first_block p tile
 
--- a front that ends with a round
-pub record IsRoundFront (p : Plan) (bytes : List ℕ) : Type 0 where
+-- a head and a front that ends with a round
+pub record IsRoundFront (p : Plan) (head bytes : List ℕ) : Type 0 where
   pub tiles : ℕ
   pub inside : tiles ≤ tile_number p.stream.siz
-  pub front : IsShortFront p tiles bytes
+  pub sent : List PartSent
+  pub front : IsShortFront p tiles sent
   pub ends : EndsRound p tiles
+  pub bytes_are : bytes ≡ head ++ bytes_sent sent
 
--- the front has been written that ends before a tile, of so many bytes
-pub record HasFront (p : Plan) (tile count : ℕ) (old new : Option (List ℕ)) : Type 0 where
-  pub bytes : List ℕ
-  pub front : IsShortFront p tile bytes
-  pub written : new ≡ followed_by bytes old
-  pub count_is : count ≡ length bytes
+-- a head and the front have been written that ends before a tile, of so many bytes
+pub record HasFront (p : Plan) (head : List ℕ) (tile count : ℕ) (old new : Option (List ℕ)) : Type 0 where
+  pub sent : List PartSent
+  pub front : IsShortFront p tile sent
+  pub written : new ≡ followed_by (head ++ bytes_sent sent) old
+  pub count_is : count ≡ length (head ++ bytes_sent sent)
 
--- all tiles and EOC
-pub record IsWholeFile (p : Plan) (bytes : List ℕ) : Type 0 where
-  pub front : List ℕ
-  pub tiles : IsShortFront p (tile_number p.stream.siz) front
-  pub bytes_are : bytes ≡ front ++ spelling 1 segment.Eoc
+-- a head, all tiles and EOC
+pub record IsWholeFile (p : Plan) (head bytes : List ℕ) : Type 0 where
+  pub sent : List PartSent
+  pub tiles : IsShortFront p (tile_number p.stream.siz) sent
+  pub bytes_are : bytes ≡ (head ++ bytes_sent sent) ++ spelling 1 segment.Eoc
 
 -- why a tile isn't written: its lowest block that is wrong, or else a tile-part that is too long
 abbrev pub IsSpoiledBy : Plan → ℕ → Halt → Type 0
@@ -115,33 +120,39 @@ IsSpoiledBy p tile (halt.TooLong at) = (at ≡ tile) × IsRightTile p tile × Is
 IsSpoiledBy p tile halt.Failed = ⊥
 IsSpoiledBy p tile halt.NoMemory = ⊥
 
--- a tile isn't written, and what was written are the rounds before its own
-pub record IsHaltedAt (p : Plan) (why : Halt) (tile : ℕ) (bytes : List ℕ) : Type 0 where
+-- the lowest tile that isn't written
+pub record IsSpoiledTile (p : Plan) (why : Halt) (tile : ℕ) : Type 0 where
   pub inside : tile < tile_number p.stream.siz
   pub spoiled : IsSpoiledBy p tile why
+  pub below : (more : List PartSent) × IsShortFront p tile more
+
+-- a tile isn't written, and what was written are a head and the rounds before its own
+pub record IsHaltedAt (p : Plan) (head : List ℕ) (why : Halt) (tile : ℕ) (bytes : List ℕ) : Type 0 where
+  pub of : IsSpoiledTile p why tile
   pub start : ℕ
-  pub front : IsShortFront p start bytes
+  pub sent : List PartSent
+  pub front : IsShortFront p start sent
+  pub bytes_are : bytes ≡ head ++ bytes_sent sent
   pub held : ℕ
   pub round : IsInRound p tile start held
-  pub below : (more : List ℕ) × IsShortFront p tile more
 
 -- why rounds aren't written, and what has been
-pub record IsHaltedTile (p : Plan) (why : Halt) (tile : ℕ) (old new : Option (List ℕ)) : Type 0 where
+pub record IsHaltedTile (p : Plan) (head : List ℕ) (why : Halt) (tile : ℕ) (old new : Option (List ℕ)) : Type 0 where
   pub bytes : List ℕ
-  pub is : IsHaltedAt p why tile bytes
+  pub is : IsHaltedAt p head why tile bytes
   pub written : new ≡ followed_by bytes old
 
 -- a front of whole rounds, or of the file
-pub record IsHaltedByFault (p : Plan) (old new : Option (List ℕ)) : Type 0 where
+pub record IsHaltedByFault (p : Plan) (head : List ℕ) (old new : Option (List ℕ)) : Type 0 where
   pub bytes : List ℕ
-  pub of : IsRoundFront p bytes ⊎ IsWholeFile p bytes
+  pub of : IsRoundFront p head bytes ⊎ IsWholeFile p head bytes
   pub some : SomeFront old new bytes
 
-abbrev pub IsHalted : Plan → Halt → Option (List ℕ) → Option (List ℕ) → Type 0
-IsHalted p (halt.Bad tile number) old new = IsHaltedTile p (halt.Bad tile number) tile old new
-IsHalted p (halt.TooLong tile) old new = IsHaltedTile p (halt.TooLong tile) tile old new
-IsHalted p halt.Failed old new = IsHaltedByFault p old new
-IsHalted p halt.NoMemory old new = IsHaltedByFault p old new
+abbrev pub IsHalted : Plan → List ℕ → Halt → Option (List ℕ) → Option (List ℕ) → Type 0
+IsHalted p head (halt.Bad tile number) old new = IsHaltedTile p head (halt.Bad tile number) tile old new
+IsHalted p head (halt.TooLong tile) old new = IsHaltedTile p head (halt.TooLong tile) tile old new
+IsHalted p head halt.Failed old new = IsHaltedByFault p head old new
+IsHalted p head halt.NoMemory old new = IsHaltedByFault p head old new
 
 -- why a round isn't made that begins at a tile: a tile of it isn't written
 pub record IsSpoiledFrom (p : Plan) (start : ℕ) (why : Halt) (tile : ℕ) : Type 0 where
@@ -164,33 +175,30 @@ IsUnmade p start (halt.TooLong tile) = IsSpoiledFrom p start (halt.TooLong tile)
 IsUnmade p start halt.Failed = ⊥
 IsUnmade p start halt.NoMemory = Unit {0}
 
--- bytes that lead from a front to a longer one
-abbrev pub LeadsBy : Plan → ℕ → ℕ → List ℕ → Type 0
-LeadsBy p tile next more = (bytes : List ℕ) → IsShortFront p tile bytes → IsShortFront p next (bytes ++ more)
-
--- the tiles from one on below another have been written, after so many bytes
-pub record HasRounds (p : Plan) (start tile before count : ℕ) (old new : Option (List ℕ)) : Type 0 where
-  pub more : List ℕ
-  pub lead : LeadsBy p start tile more
-  pub written : new ≡ followed_by more old
-  pub count_is : count ≡ before + length more
+-- the tiles from one on below another have been written, after so many bytes, and their tile-parts' lengths put down where they are asked
+pub record HasRounds (p : Plan) (start tile before count : ℕ) (old new : Option (List ℕ)) (from to : Option (List PartLength)) : Type 0 where
+  pub more : List PartSent
+  pub lead : LeadOn p start tile more
+  pub written : new ≡ followed_by (bytes_sent more) old
+  pub count_is : count ≡ before + length (bytes_sent more)
+  pub measured : to ≡ lengths_behind more from
 
 -- a tile isn't written, and the rounds before its own have been
 pub record IsSpoiledAfter (p : Plan) (start : ℕ) (why : Halt) (tile : ℕ) (old new : Option (List ℕ)) : Type 0 where
-  pub more : List ℕ
+  pub more : List PartSent
   pub from : ℕ
-  pub lead : LeadsBy p start from more
-  pub written : new ≡ followed_by more old
+  pub lead : LeadOn p start from more
+  pub written : new ≡ followed_by (bytes_sent more) old
   pub spoiled : IsSpoiledFrom p from why tile
 
 -- a front of some rounds has been written
 pub record IsCutAfter (p : Plan) (start : ℕ) (old new : Option (List ℕ)) : Type 0 where
-  pub more : List ℕ
+  pub more : List PartSent
   pub next : ℕ
-  pub lead : LeadsBy p start next more
+  pub lead : LeadOn p start next more
   pub inside : next ≤ tile_number p.stream.siz
   pub ends : EndsRound p next
-  pub some : SomeFront old new more
+  pub some : SomeFront old new (bytes_sent more)
 
 -- why rounds aren't written
 abbrev pub IsUnwritten : Plan → ℕ → Halt → Option (List ℕ) → Option (List ℕ) → Type 0
@@ -228,9 +236,9 @@ IsTapedTo p halt.Failed entries = EndWithRound p entries
 IsTapedTo p halt.NoMemory entries = EndWithRound p entries
 
 -- the whole file has been written
-pub record HasWhole (p : Plan) (count : ℕ) (old new : Option (List ℕ)) : Type 0 where
+pub record HasWhole (p : Plan) (head : List ℕ) (count : ℕ) (old new : Option (List ℕ)) : Type 0 where
   pub bytes : List ℕ
-  pub whole : IsWholeFile p bytes
+  pub whole : IsWholeFile p head bytes
   pub written : new ≡ followed_by bytes old
   pub count_is : count ≡ length bytes
 

@@ -36,7 +36,7 @@ pub struct Crew<'a, R, G> {
 }
 
 /// Whether one of the blocks is to be coded anew.
-fn is_anew(jobs: &[Job<'_>]) -> bool
+pub fn is_anew(jobs: &[Job<'_>]) -> bool
     ensures { result ≡ list_any (λ j. is_some j.style) jobs.now }
 {
     jobs.iter().any(|job| job.style.is_some())

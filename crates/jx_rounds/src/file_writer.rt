@@ -20,6 +20,10 @@ impl<F: Files> ByteWriter for F {
 
     ghost faults = { λ f. F.write_faults f };
 
+    fn is_blind(&self) -> bool {
+        false
+    }
+
     fn write(&mut self, bytes: &[u8]) -> Result<(), Refused> {
         write_all(self, bytes)
     }

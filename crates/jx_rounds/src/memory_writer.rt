@@ -41,6 +41,10 @@ impl ByteWriter for MemoryWriter {
 
     ghost faults = { λ _. 0 };
 
+    fn is_blind(&self) -> bool {
+        false
+    }
+
     fn write(&mut self, bytes: &[u8]) -> Result<(), Refused> {
         self.bytes.extend_from_slice(bytes)?;
         Ok(())

@@ -4,8 +4,9 @@ ghost use Rattle.std.specs.Prelude.{◌≡◌, ◌<◌, ◌≤◌, ◌+◌, ◌^
 ghost use Rattle.jx_codestream.specs.First.{tile_number};
 ghost use Rattle.jx_tier2_writer.specs.Tile.{AreMade, blocks_in, first_block};
 ghost use Rattle.jx_options.specs.Work.{MayBeWork};
-ghost use Rattle.jx_rounds.specs.MadeRounds.{AreUpTo, IsExtent, TapesOn, entry_of, parts_of};
+ghost use Rattle.jx_rounds.specs.MadeRounds.{AreUpTo, IsExtent, TapesOn, entry_of};
 ghost use Rattle.jx_rounds.specs.Rounds.{BeginsRound, EndsRound, IsPlace, IsUnmade, IsUnmadeTile, LeadOn};
+ghost use Rattle.jx_rounds.specs.Sent.{sent_from};
 
 use crate::crew::{Crew, made_blocks};
 use crate::halt::Halt;
@@ -117,7 +118,8 @@ fn push_packed<'a, 'b>(
     requires tile { tile < tile_number making.now.stream.siz }
     requires entries { AreUpTo making.now (first_block making.now tile) (blocks_in making.now tile) entries.now }
     ensures whole { OnOk result ((length entries.now ≡ blocks_in making.now tile) × AreMade entries.now) }
-    ensures lead { OnOk result ((first : ℕ) → LeadOn making.now first tile (parts_of tiles.old.items) → LeadOn making.now first (tile + 1) (parts_of tiles.new.items)) }
+    ensures lead { OnOk result ((first : ℕ) → first + length tiles.old.items ≡ tile → LeadOn making.now first tile (sent_from first tiles.old.items) → LeadOn making.now first (tile + 1) (sent_from first tiles.new.items)) }
+    ensures count { OnOk result (length tiles.new.items ≡ length tiles.old.items + 1) }
     ensures unmade { IfErr result (λ h. IsUnmadeTile making.now tile h) }
 {
     let out = match packed_tile(alloc, making, tile, entries, laid) {
@@ -145,7 +147,8 @@ fn push_tiles<'a, 'b>(
     requires few { extent.now.blocks ≤ 2 ^ 20 }
     requires entries { AreUpTo making.now (first_block making.now tile) extent.now.blocks entries.now }
     requires empty { tiles.old.items ≡ [] }
-    ensures parts { OnOk result (LeadOn making.now tile extent.now.tile (parts_of tiles.new.items)) }
+    ensures parts { OnOk result (LeadOn making.now tile extent.now.tile (sent_from tile tiles.new.items)) }
+    ensures count { OnOk result (tile + length tiles.new.items ≡ extent.now.tile) }
     ensures whole { OnOk result (length entries.now ≡ extent.now.blocks) }
     ensures unmade { IfErr result (λ h. IsUnmade making.now tile h) }
 {
@@ -178,7 +181,8 @@ pub fn packed_tiles<'a, 'b>(
     requires tile { extent.now.tile ≡ tile + length extent.now.counts.items }
     requires few { extent.now.blocks ≤ 2 ^ 20 }
     requires entries { AreUpTo making.now (first_block making.now tile) extent.now.blocks entries.now }
-    ensures parts { IfOk result (λ tiles. LeadOn making.now tile extent.now.tile (parts_of tiles.items)) }
+    ensures parts { IfOk result (λ tiles. LeadOn making.now tile extent.now.tile (sent_from tile tiles.items)) }
+    ensures count { IfOk result (λ tiles. tile + length tiles.items ≡ extent.now.tile) }
     ensures whole { OnOk result (length entries.now ≡ extent.now.blocks) }
     ensures unmade { IfErr result (λ h. IsUnmade making.now tile h) }
 {

@@ -10,6 +10,7 @@ ghost use Rattle.jx_base.specs.declared.pieces.Block.{Block};
 ghost use Rattle.jx_tier2_writer.specs.Tile.{AreMade, AreValuesOf, IsMade, IsTile, IsTooLong, StandIn, blocks_in, first_block, made_in};
 ghost use Rattle.jx_rounds.specs.MadeRounds.{AreUpTo, IsFirstUnmade, IsUnmadeAs};
 ghost use Rattle.jx_rounds.specs.Rounds.{IsUnmadeTile, LeadOn, most_of_part};
+ghost use Rattle.jx_rounds.specs.Sent.{sent_of};
 
 use crate::halt::Halt;
 use crate::making::Making;
@@ -83,7 +84,7 @@ pub fn packed_tile<'a, 'b>(
 ) -> Result<Packed<'a, 'b>, Halt>
     requires tile { tile < tile_number making.now.stream.siz }
     requires entries { AreUpTo making.now (first_block making.now tile) (blocks_in making.now tile) entries.now }
-    ensures parts { IfOk result (λ out. LeadOn making.now tile (tile + 1) (map concat out)) }
+    ensures parts { IfOk result (λ out. LeadOn making.now tile (tile + 1) (sent_of tile (map concat out))) }
     ensures whole { OnOk result ((length entries.now ≡ blocks_in making.now tile) × AreMade entries.now) }
     ensures unmade { IfErr result (λ h. IsUnmadeTile making.now tile h) }
 {

@@ -1,12 +1,12 @@
 //! Where the bytes of a codestream go.
 
-ghost use Rattle.std.specs.Prelude.{◌≡◌, ℕ, List, Option, OnOk};
+ghost use Rattle.std.specs.Prelude.{◌≡◌, ℕ, true, List, Option, None, OnOk};
 ghost use Rattle.jx_io.specs.Causes.{HasCause};
 ghost use Rattle.jx_rounds.specs.Taken.{SomeFront, followed_by};
 
 use jx_io::Refused;
 
-/// What takes bytes, one after another: a file that was created, or a buffer in memory.
+/// What takes bytes, one after another: a file that was created, a buffer in memory, or what lets them go.
 ///
 /// `write` answers `Failed` exactly where the count of faults rose in that call (a count of 64 bits that stands still at its end). It
 /// changes nothing but the bytes and the faults, so what may be written to once may be written to after every call.
@@ -24,6 +24,10 @@ pub trait ByteWriter {
 
     /// The faults so far. It never falls.
     ghost faults: { Self → ℕ };
+
+    /// Whether bytes are let go, so that none need be written.
+    fn is_blind(&self) -> bool
+        ensures { result ≡ true → written self.now ≡ None };
 
     /// Writes all of these bytes, or is refused after a front of them.
     fn write(&mut self, bytes: &[u8]) -> Result<(), Refused>

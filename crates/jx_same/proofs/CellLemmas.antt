@@ -1,5 +1,5 @@
 -- The coefficients of a code-block, and blocks that have the same ones.
-use Rattle.std.proofs.Common.{◌≡◌, ◌∙◌, ℕ, ◌-◌, ◌==◌, List, ap, refl, true, ◌&&◌}
+use Rattle.std.proofs.Common.{◌≡◌, ◌∙◌, ℕ, ◌-◌, ◌==◌, List, ap, refl, sym, true, ◌&&◌}
 use Rattle.std.proofs.lemmas.Bool.{and_parts, eqb-true}
 use Rattle.jx_base.specs.declared.names.Band.{Band}
 use Rattle.jx_base.specs.declared.names.Rect.{Rect}
@@ -10,7 +10,8 @@ use Rattle.jx_tier1_specs.specs.Cells.{Cells}
 use Rattle.jx_tier1_specs.specs.Reading.{coding_of, decoded, read_from, zeros}
 use Rattle.jx_codeblock.specs.Recoding.{own_segments}
 use Rattle.jx_codeblock.specs.Written.{own_cells}
-use Rattle.jx_same.specs.Sides.{AreAlike, same_heads, same_passes, same_planes, same_rect, same_span}
+use Rattle.jx_tier1_specs.specs.declared.coded.Coded.{Coded}
+use Rattle.jx_same.specs.Sides.{AreAlike, IsCodedOf, same_heads, same_planes, same_rect, same_span}
 
 -- without a pass all are 0
 pub none_decoded : (b : Block) → b.passes ≡ 0 → zeros (length_of b.rect.x) (length_of b.rect.y) ≡ own_cells b
@@ -47,22 +48,54 @@ rect_from a b h =
     let both = and_parts (same_span a.x b.x) (same_span a.y b.y) h in
     rect_same a b (span_from a.x b.x both.0) (span_from a.y b.y both.1)
 
-pub alike_from : (a b : Block) → a.name.band ≡ b.name.band → same_heads a b ≡ true → own_segments a ≡ own_segments b → AreAlike a b
-alike_from a b band heads segments =
-    let parts = and_parts (same_rect a.rect b.rect) (same_planes a b && same_passes a b) heads in
-    let more = and_parts (same_planes a b) (same_passes a b) parts.1 in
+pub record HasHeads (a b : Block) : Type 0 where
+  pub rect : a.rect ≡ b.rect
+  pub planes : a.planes ≡ b.planes
+  pub zero : a.zero ≡ b.zero
+  pub passes : a.passes ≡ b.passes
+
+pub heads_from : (a b : Block) → same_heads a b ≡ true → HasHeads a b
+heads_from a b heads =
+    let parts = and_parts (same_rect a.rect b.rect) (same_planes a b && a.passes == b.passes) heads in
+    let more = and_parts (same_planes a b) (a.passes == b.passes) parts.1 in
     let of_planes = and_parts (a.planes == b.planes) (a.zero == b.zero) more.0 in
-    let of_passes = and_parts (a.style.bits == b.style.bits) (a.passes == b.passes) more.1 in
-    let rect : a.rect ≡ b.rect = rect_from a.rect b.rect parts.0 in
-    let planes : a.planes ≡ b.planes = eqb-true a.planes b.planes of_planes.0 in
-    let zero : a.zero ≡ b.zero = eqb-true a.zero b.zero of_planes.1 in
-    let style : a.style.bits ≡ b.style.bits = eqb-true a.style.bits b.style.bits of_passes.0 in
-    let passes : a.passes ≡ b.passes = eqb-true a.passes b.passes of_passes.1 in
-    let coded : a.planes - a.zero ≡ b.planes - b.zero = ap (λ (n : ℕ). n - a.zero) planes ∙ ap (λ (n : ℕ). b.planes - n) zero in
     record {
-      rect = rect;
-      zero = zero;
-      passes = passes;
-      cells = cells_same a.rect b.rect a.name.band b.name.band a.style.bits b.style.bits (a.planes - a.zero) (b.planes - b.zero) (own_segments a) (own_segments b) a.passes b.passes
-          rect band style coded segments passes;
+      rect = rect_from a.rect b.rect parts.0;
+      planes = eqb-true a.planes b.planes of_planes.0;
+      zero = eqb-true a.zero b.zero of_planes.1;
+      passes = eqb-true a.passes b.passes more.1;
     }
+
+pub coded_planes : (a b : Block) → HasHeads a b → a.planes - a.zero ≡ b.planes - b.zero
+coded_planes a b h = ap (λ (n : ℕ). n - a.zero) h.planes ∙ ap (λ (n : ℕ). b.planes - n) h.zero
+
+pub cells_alike : (a b : Block) → same_heads a b ≡ true → own_cells a ≡ own_cells b → AreAlike a b
+cells_alike a b heads cells = let h = heads_from a b heads in record { rect = h.rect; zero = h.zero; passes = h.passes; cells = cells }
+
+-- without a pass
+pub none_alike : (a b : Block) → same_heads a b ≡ true → a.passes ≡ 0 → AreAlike a b
+none_alike a b heads none =
+    let h = heads_from a b heads in
+    cells_alike a b heads (sym (none_decoded a none) ∙ ap (λ (r : Rect). zeros (length_of r.x) (length_of r.y)) h.rect ∙ none_decoded b (sym h.passes ∙ none))
+
+-- with the same segments in one style
+pub alike_from : (a b : Block) → a.name.band ≡ b.name.band → same_heads a b ≡ true → a.style.bits ≡ b.style.bits → own_segments a ≡ own_segments b → AreAlike a b
+alike_from a b band heads style segments =
+    let h = heads_from a b heads in
+    cells_alike a b heads
+    (cells_same a.rect b.rect a.name.band b.name.band a.style.bits b.style.bits (a.planes - a.zero) (b.planes - b.zero) (own_segments a) (own_segments b) a.passes b.passes
+    h.rect band style (coded_planes a b h) segments h.passes)
+
+-- what was decoded of the coded passes of both is what they have
+pub coded_cells : (b : Block) (c : Coded) (wide high : ℕ) → IsCodedOf b c → wide ≡ length_of b.rect.x → high ≡ length_of b.rect.y
+    → (decoded wide high (coding_of c.band c.style.bits c.planes) c.segments c.passes).cells ≡ own_cells b
+coded_cells b c wide high h across down =
+    from_segments b wide high c.band c.style.bits c.planes c.passes c.segments across down h.band h.style h.planes h.passes h.segments
+
+pub same_decoded : (a b : Block) (c d : Coded) (wide high : ℕ) → same_heads a b ≡ true → IsCodedOf a c → IsCodedOf b d → wide ≡ length_of a.rect.x → high ≡ length_of a.rect.y
+    → (decoded wide high (coding_of c.band c.style.bits c.planes) c.segments c.passes).cells ≡ (decoded wide high (coding_of d.band d.style.bits d.planes) d.segments d.passes).cells
+    → own_cells a ≡ own_cells b
+same_decoded a b c d wide high heads p q across down same =
+    let h = heads_from a b heads in
+    sym (coded_cells a c wide high p across down) ∙ same
+    ∙ coded_cells b d wide high q (across ∙ ap (λ (r : Rect). length_of r.x) h.rect) (down ∙ ap (λ (r : Rect). length_of r.y) h.rect)

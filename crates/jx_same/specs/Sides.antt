@@ -1,5 +1,5 @@
 -- One of the two codestreams that are compared, at one of its tiles.
-use Rattle.std.specs.Prelude.{ℕ, ◌<◌, ◌≡◌, ◌==◌, Bool, false, ◌&&◌, not, List, length, Option, Some, slice_get}
+use Rattle.std.specs.Prelude.{ℕ, ◌-◌, ◌<◌, ◌≡◌, ◌==◌, Bool, false, ◌&&◌, not, List, length, Option, Some, slice_get}
 use Rattle.jx_base.specs.declared.names.Rect.{Rect}
 use Rattle.jx_base.specs.declared.names.Span.{Span}
 use Rattle.jx_base.specs.declared.pieces.Block.{Block}
@@ -10,7 +10,9 @@ use Rattle.jx_geom.specs.Ranges.{HasBand}
 use Rattle.jx_codestream.specs.declared.Stream.{Stream}
 use Rattle.jx_codestream.specs.First.{tile_number}
 use Rattle.jx_codestream.specs.Shapes.{geometry}
+use Rattle.jx_codeblock.specs.Recoding.{own_segments}
 use Rattle.jx_codeblock.specs.Written.{own_cells}
+use Rattle.jx_tier1_specs.specs.declared.coded.Coded.{Coded}
 use Rattle.jx_marker.specs.declared.CompSize.{CompSize}
 use Rattle.jx_marker.specs.declared.Siz.{Siz}
 use Rattle.jx_plan.specs.Meaning.{Component, Meaning, Place, meaning_of, sample_at, sample_in}
@@ -80,7 +82,7 @@ abbrev pub agrees_at : SideValue → BandName → Block → ℕ → ℕ → Bool
 agrees_at s n b x y = same_coef (sample_in (place_in s n x y) b) (coef_or (sample_at s.blocks (place_in s n x y)))
 
 -- ---- blocks that need no decoding
--- two blocks have the same places, planes and passes in one style
+-- two blocks have the same places, planes and passes
 abbrev pub same_span : Span → Span → Bool
 same_span a b = a.low == b.low && a.high == b.high
 
@@ -90,11 +92,16 @@ same_rect a b = same_span a.x b.x && same_span a.y b.y
 abbrev pub same_planes : Block → Block → Bool
 same_planes a b = a.planes == b.planes && a.zero == b.zero
 
-abbrev pub same_passes : Block → Block → Bool
-same_passes a b = a.style.bits == b.style.bits && a.passes == b.passes
-
 abbrev pub same_heads : Block → Block → Bool
-same_heads a b = same_rect a.rect b.rect && (same_planes a b && same_passes a b)
+same_heads a b = same_rect a.rect b.rect && (same_planes a b && a.passes == b.passes)
+
+-- a block's coded passes
+pub record IsCodedOf (b : Block) (c : Coded) : Type 0 where
+  pub band : c.band ≡ b.name.band
+  pub style : c.style.bits ≡ b.style.bits
+  pub planes : c.planes ≡ b.planes - b.zero
+  pub passes : c.passes ≡ b.passes
+  pub segments : c.segments ≡ own_segments b
 
 -- two blocks have the same coefficients
 pub record AreAlike (a b : Block) : Type 0 where

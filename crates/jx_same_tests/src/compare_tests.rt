@@ -30,7 +30,7 @@ const THIN: &str =
 pub(crate) const COMP: &str = "0001 07 01 01";
 
 const COMPS: &str = "0002 07 01 01 07 02 01";
-// Code-blocks of 64 by 64, of 8 by 8 and of 4 by 4; each pass terminated; one level; the 9-7 wavelet.
+// Code-blocks of 64 by 64, of 8 by 8 and of 4 by 4; each pass terminated; causal contexts; one level; the 9-7 wavelet.
 pub(crate) const PLAIN: &str = "FF52 000C 00 00 0001 00 00 04 04 00 01";
 
 const EIGHT: &str = "FF52 000C 00 00 0001 00 00 01 01 00 01";
@@ -38,6 +38,8 @@ const EIGHT: &str = "FF52 000C 00 00 0001 00 00 01 01 00 01";
 const FOUR: &str = "FF52 000C 00 00 0001 00 00 00 00 00 01";
 
 const ENDED: &str = "FF52 000C 00 00 0001 00 00 04 04 04 01";
+
+const CAUSAL: &str = "FF52 000C 00 00 0001 00 00 04 04 08 01";
 
 const LEVEL: &str = "FF52 000C 00 00 0001 00 01 04 04 00 01";
 
@@ -100,7 +102,7 @@ pub(crate) type Parts = [&'static str; 5];
 /// What is told of two codestreams: nothing where they are the same.
 type Row = (Parts, Parts, Option<Field>);
 
-static ROWS: [Row; 25] = [
+static ROWS: [Row; 28] = [
     (
         [ONE, COMP, PLAIN, STEP, EMPTY],
         [ONE, COMP, PLAIN, STEP, EMPTY],
@@ -134,6 +136,21 @@ static ROWS: [Row; 25] = [
     (
         [ONE, COMP, ENDED, STEP, SEGMENTS],
         [ONE, COMP, PLAIN, STEP, PASSES],
+        None,
+    ),
+    (
+        [ONE, COMP, PLAIN, STEP, PASSES],
+        [ONE, COMP, ENDED, STEP, OTHER],
+        Some(Field::Coef),
+    ),
+    (
+        [ONE, COMP, PLAIN, STEP, PASSES],
+        [ONE, COMP, CAUSAL, STEP, PASSES],
+        None,
+    ),
+    (
+        [ONE, COMP, PLAIN, STEP, EMPTY],
+        [ONE, COMP, ENDED, STEP, EMPTY],
         None,
     ),
     (

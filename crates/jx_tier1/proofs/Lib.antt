@@ -1,5 +1,7 @@
 mod AddedLemmas
 mod AnswerLemmas
+mod BesideLemmas
+mod BesideRuns
 mod CoefNotes
 mod ComingLemmas
 mod CopyLemmas

@@ -1,4 +1,5 @@
 -- Inner: no other crate cites these.
+pub mod Beside
 pub mod InStep
 pub mod Joined
 pub mod Labels

@@ -31,7 +31,7 @@ impl Model for Pen {
 
     ghost Value = { Writing };
 
-    ghost view = { λ p. record { target = no_grid; raw = p.is_raw; mq = p.encoder.writer; bits = p.bits.bits; contexts = p.contexts } };
+    ghost view = { λ p. record { target = no_grid; raw = p.is_raw; mq = p.encoder; bits = p.bits; contexts = p.contexts } };
 }
 
 /// A bit of a segmentation symbol (T.800 D.5).

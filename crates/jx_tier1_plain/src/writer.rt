@@ -29,7 +29,7 @@ impl<'a> Model for Writer<'a> {
 
     ghost Value = { Writing };
 
-    ghost view = { λ w. record { target = w.target.now; raw = w.is_raw; mq = w.encoder.writer; bits = w.bits.bits; contexts = w.contexts } };
+    ghost view = { λ w. record { target = w.target.now; raw = w.is_raw; mq = w.encoder; bits = w.bits; contexts = w.contexts } };
 }
 
 impl<'a> Writer<'a> {

@@ -21,6 +21,8 @@ mod raw_tests;
 #[cfg(test)]
 mod recode_tests;
 #[cfg(test)]
+mod same_tests;
+#[cfg(test)]
 mod samples;
 #[cfg(test)]
 mod walk_rows;

@@ -46,18 +46,6 @@ fn coded(mut encoder: MqEncoder) -> Result<Vec<u8>, NoMemory> {
     encoder.flush()
 }
 
-/// The segment of as many drawn decisions under all labels.
-fn drawn(mut encoder: MqEncoder, count: usize) -> Result<Vec<u8>, NoMemory> {
-    let mut contexts = Contexts::new();
-    let mut x = 1;
-    for _ in 0..count {
-        x = next(x);
-        let label = ((x >> 50) % 19) as u8;
-        encoder.bit(&mut contexts, label, x >> 33 & 1 == 1)?;
-    }
-    encoder.flush()
-}
-
 #[test]
 fn published_vector(rt: HostRuntime) -> Result<(), Fail> {
     let bytes = coded(MqEncoder::new(rt.alloc()))?;
@@ -174,17 +162,5 @@ fn room_of_a_whole_segment(rt: HostRuntime) -> Result<(), Fail> {
     let bytes = coded(MqEncoder::with_room(rt.alloc(), 28)?)?;
     equal(&rt, bytes.len(), 28);
     equal(&rt, bytes.capacity(), 29);
-    Ok(())
-}
-
-#[test]
-fn room_for_all_decisions(rt: HostRuntime) -> Result<(), Fail> {
-    for count in [0, 1, 10, 100, 1000usize] {
-        check(&rt, count <= 1000);
-        let room = 15 * count / 7 + 2;
-        let bytes = drawn(MqEncoder::with_room(rt.alloc(), room)?, count)?;
-        check_at(&rt, &count, bytes.len() <= room);
-        equal_at(&rt, &count, bytes.capacity(), room + 1);
-    }
     Ok(())
 }

@@ -20,22 +20,13 @@ fn written(alloc: Global, count: u32, bits: u32) -> Result<Vec<u8>, NoMemory>
     writer.finish()
 }
 
-/// The segment of as many bits, of which about one in eight is 0, with room for 100 bytes at first.
+/// The segment of as many bits, of which about one in eight is 0.
 fn drawn(alloc: Global, count: u64) -> Result<Vec<u8>, NoMemory> {
-    let mut writer = RawWriter::with_room(alloc, 100)?;
+    let mut writer = RawWriter::new(alloc);
     let mut x: u64 = count;
     for _ in 0..count {
         x = next(x);
         writer.bit(x >> 33 & 7 != 0)?;
-    }
-    writer.finish()
-}
-
-/// The segment of as many bits 1, with room for some bytes.
-fn ones(alloc: Global, room: usize, count: usize) -> Result<Vec<u8>, NoMemory> {
-    let mut writer = RawWriter::with_room(alloc, room)?;
-    for _ in 0..count {
-        writer.bit(true)?;
     }
     writer.finish()
 }
@@ -89,19 +80,4 @@ fn ends(rt: HostRuntime) {
     equal(&rt, reader.looked(), 2);
     check(&rt, reader.bit());
     equal(&rt, reader.looked(), 2);
-}
-
-#[test]
-fn room_for_seven_bits_in_a_byte(rt: HostRuntime) -> Result<(), Fail> {
-    for count in [0, 1, 7, 8, 9, 23, 38, 1000usize] {
-        check(&rt, count <= 1000);
-        let room = (count + 6) / 7;
-        let bytes = ones(rt.alloc(), room, count)?;
-        check_at(&rt, &count, bytes.len() <= room);
-        equal_at(&rt, &count, bytes.capacity(), room);
-    }
-    let bytes = ones(rt.alloc(), 2, 8)?;
-    equal(&rt, bytes.as_slice(), [0xFF, 0x00].as_slice());
-    equal(&rt, bytes.capacity(), 2);
-    Ok(())
 }

@@ -15,7 +15,7 @@ use std::alloc::Global;
 use std::test::Fail;
 
 /// A grid of drawn numbers in nine planes, of which small ones are the most.
-fn drawn(alloc: Global, width: u16, height: u16, seed: u64) -> Result<FlagGrid, NoMemory>
+pub(crate) fn drawn(alloc: Global, width: u16, height: u16, seed: u64) -> Result<FlagGrid, NoMemory>
     requires wide { width ≤ 1024 }
     requires high { height ≤ 1024 }
     ensures { IfOk result (λ g. HasSize g) }

@@ -4,7 +4,7 @@ mod HeldLemmas
 mod FewLemmas
 mod TurnLemmas
 mod PlaceLemmas
-mod MadeLemmas
+pub mod MadeLemmas
 mod SameLemmas
 mod IndexLemmas
 mod CoverLemmas

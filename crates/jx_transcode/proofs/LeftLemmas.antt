@@ -6,7 +6,7 @@ use Rattle.jx_cli.specs.Words.{Text}
 use Rattle.jx_transcode.specs.Aims.{Aim}
 use Rattle.jx_transcode.specs.declared.status.Status.{Status}
 use Rattle.jx_transcode.specs.declared.status.Status.TheVariants as status
-use Rattle.jx_transcode.specs.Outcome.{IsBegun, IsCutShort, IsMade, IsRefused, IsStopped, IsUnfinished, IsUntouched, Leaves, LeavesBegun, most_bytes}
+use Rattle.jx_transcode.specs.Outcome.{IsBegun, IsCutShort, IsMade, IsRefused, IsStopped, IsStoppedAt, IsStoppedByBlock, IsUnbegun, IsUnfinished, IsUntouched, Leaves, LeavesBegun, most_bytes}
 
 pub untouched_twice : (a b c : Meaning) → IsUntouched a b → IsUntouched b c → IsUntouched a c
 untouched_twice a b c first next = record {
@@ -31,8 +31,31 @@ unfinished_after name bytes a b c first (inl same) = inl (untouched_twice a b c 
 unfinished_after name bytes a b c first (inr made) = inr (made.0, made.1, untouched_twice a b made.0 first made.2, made.3)
 
 stands_after : (name : Text) (aim : Aim) (input : List ℕ) (a b c : Meaning) → IsUntouched a b → LeavesBegun name aim input b c → LeavesBegun name aim input a c
-stands_after name aim input a b c first (inl front) = inl (front.0, front.1, unfinished_after name front.0 a b c first front.2)
-stands_after name aim input a b c first (inr whole) = inr (whole.0, whole.1, made_after name whole.0 a b c first whole.2)
+stands_after name aim input a b c first (inl same) = inl (untouched_twice a b c first same)
+stands_after name aim input a b c first (inr (inl front)) = inr (inl (front.0, front.1, unfinished_after name front.0 a b c first front.2))
+stands_after name aim input a b c first (inr (inr whole)) = inr (inr (whole.0, whole.1, made_after name whole.0 a b c first whole.2))
+
+unbegun_after : (aim : Aim) (a b c : Meaning) → IsUntouched a b → IsUnbegun aim b c → IsUnbegun aim a c
+unbegun_after aim a b c first (asked, same) = (asked, untouched_twice a b c first same)
+
+stopped_then : (name : Text) (aim : Aim) (input : List ℕ) (tile blocks : ℕ) (a b c : Meaning) → IsUntouched a b → IsStoppedAt name aim input tile blocks b c → IsStoppedAt name aim input tile blocks a c
+stopped_then name aim input tile blocks a b c first next = record {
+  stands = elim next.stands [
+    | inl cut ↦ inl (cut.0, cut.1, stopped_after name cut.0 a b c first cut.2)
+    | inr none ↦ inr (unbegun_after aim a b c first none)
+  ];
+  count = next.count;
+}
+
+blocked_then : (name : Text) (aim : Aim) (input : List ℕ) (number blocks : ℕ) (a b c : Meaning) → IsUntouched a b → IsStoppedByBlock name aim input number blocks b c
+    → IsStoppedByBlock name aim input number blocks a c
+blocked_then name aim input number blocks a b c first next = record {
+  stands = elim next.stands [
+    | inl cut ↦ inl (cut.0, cut.1, stopped_after name cut.0 a b c first cut.2)
+    | inr none ↦ inr (unbegun_after aim a b c first none)
+  ];
+  count = next.count;
+}
 
 refused_after : (blocks : ℕ) (a b c : Meaning) → IsUntouched a b → IsRefused blocks b c → IsRefused blocks a c
 refused_after blocks a b c first refused = (refused.0, untouched_twice a b c first refused.1)
@@ -54,11 +77,9 @@ leaves_after name aim input status.Words blocks bytes a b c first next = refused
 leaves_after name aim input (status.Unlike how) blocks bytes a b c first next = absurd next
 leaves_after name aim input (status.Rule number place) blocks bytes a b c first next = refused_after blocks a b c first next
 leaves_after name aim input (status.Limit number found) blocks bytes a b c first next = (next.0, untouched_twice a b c first next.1)
-leaves_after name aim input (status.Choice number place) blocks bytes a b c first (inl next) =
-    inl (next.0, record { bytes = next.1.bytes; is = next.1.is; stopped = stopped_after name next.1.bytes a b c first next.1.stopped; count = next.1.count })
+leaves_after name aim input (status.Choice number place) blocks bytes a b c first (inl next) = inl (next.0, stopped_then name aim input place blocks a b c first next.1)
 leaves_after name aim input (status.Choice number place) blocks bytes a b c first (inr next) = inr (next.0, next.1, untouched_twice a b c first next.2)
-leaves_after name aim input (status.Block number) blocks bytes a b c first next =
-    record { bytes = next.bytes; is = next.is; stopped = stopped_after name next.bytes a b c first next.stopped; count = next.count }
+leaves_after name aim input (status.Block number) blocks bytes a b c first next = blocked_then name aim input number blocks a b c first next
 leaves_after name aim input status.ReadFault blocks bytes a b c first next = refused_after blocks a b c first next
 leaves_after name aim input status.WriteFault blocks bytes a b c first next = cut_after name aim input blocks a b c first next
 leaves_after name aim input status.NoMemory blocks bytes a b c first next = cut_after name aim input blocks a b c first next

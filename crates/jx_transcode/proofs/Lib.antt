@@ -8,6 +8,7 @@ mod SomeSameLemmas
 mod KeptSameLemmas
 mod SamplingLemmas
 mod FiledLemmas
+mod CutLemmas
 mod TapeLemmas
 mod AnswerLemmas
 mod RefusedLemmas

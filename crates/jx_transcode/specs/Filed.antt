@@ -1,5 +1,5 @@
 -- What a whole file, or one that was halted, leaves under a name.
-use Rattle.std.specs.Prelude.{◌≡◌, ◌⊎◌, ℕ, List, length, Result, Ok, Err}
+use Rattle.std.specs.Prelude.{◌≡◌, ◌⊎◌, ℕ, true, List, length, Result, Ok, Err}
 use Rattle.jx_io.specs.Device.{Meaning}
 use Rattle.jx_io.specs.declared.refused.Refused.{Refused}
 use Rattle.jx_io.specs.declared.refused.Refused.TheVariants as refused
@@ -7,8 +7,9 @@ use Rattle.jx_transcode.specs.Aims.{Aim}
 use Rattle.jx_plan.specs.declared.faults.PlanFault.{PlanFault}
 use Rattle.jx_plan.specs.declared.faults.PlanFault.TheVariants as unplanned
 use Rattle.jx_plan.specs.Plan.{Plan}
-use Rattle.jx_transcode.specs.Outcome.{IsCutShort, IsMade, IsStopped, IsUnfinished, IsVerdict, Leaves, Verdict}
-use Rattle.jx_rounds.specs.Rounds.{IsHaltedAt, IsRoundFront, IsWholeFile}
+use Rattle.jx_transcode.specs.Outcome.{IsCutShort, IsMade, IsStopped, IsUnfinished, IsUntouched, IsVerdict, Leaves, Verdict}
+use Rattle.jx_rounds.specs.Heads.{IsHead}
+use Rattle.jx_rounds.specs.Rounds.{IsHaltedAt, IsRoundFront, IsSpoiledTile, IsWholeFile}
 use Rattle.jx_cli.specs.Words.{Text}
 use Rattle.jx_options.specs.Work.{Work}
 use Rattle.jx_rounds.specs.declared.tape.TapeEntry.{TapeEntry}
@@ -24,24 +25,44 @@ use Rattle.jx_reduce.specs.declared.faults.ReduceFault.TheVariants as unreduced
 use Rattle.jx_codestream.specs.declared.faults.StreamFault.TheVariants as fault
 
 pub record IsFileMade (p : Plan) (name : Text) (count : ℕ) (old new : Meaning) : Type 0 where
+  pub head : List ℕ
+  pub is : IsHead p head
   pub bytes : List ℕ
-  pub whole : IsWholeFile p bytes
+  pub whole : IsWholeFile p head bytes
   pub made : IsMade name bytes old new
   pub count_is : count ≡ length bytes
 
-pub record IsFileBegun (p : Plan) (name : Text) (old new : Meaning) : Type 0 where
+pub record IsFileCut (p : Plan) (name : Text) (old new : Meaning) : Type 0 where
+  pub head : List ℕ
+  pub is : IsHead p head
   pub bytes : List ℕ
-  pub of : IsRoundFront p bytes ⊎ IsWholeFile p bytes
+  pub of : IsRoundFront p head bytes ⊎ IsWholeFile p head bytes
   pub begun : IsUnfinished name bytes old new
 
+-- nothing was created, or a front was written
+abbrev pub IsFileBegun : Plan → Text → Meaning → Meaning → Type 0
+IsFileBegun p name old new = IsUntouched old new ⊎ IsFileCut p name old new
+
+-- a tile isn't written: the rounds before its own were
 pub record IsFileStopped (p : Plan) (name : Text) (why : Halt) (tile : ℕ) (old new : Meaning) : Type 0 where
+  pub head : List ℕ
+  pub head_is : IsHead p head
   pub bytes : List ℕ
-  pub is : IsHaltedAt p why tile bytes
+  pub is : IsHaltedAt p head why tile bytes
   pub stopped : IsStopped name bytes old new
 
+-- and nothing was created where the index is asked, since the lengths of all tile-parts are found before that
+pub record IsFileUnbegun (p : Plan) (why : Halt) (tile : ℕ) (old new : Meaning) : Type 0 where
+  pub asked : p.wanted.marks.tlm ≡ true
+  pub of : IsSpoiledTile p why tile
+  pub same : IsUntouched old new
+
+abbrev pub IsFileSpoiled : Plan → Text → Halt → ℕ → Meaning → Meaning → Type 0
+IsFileSpoiled p name why tile old new = IsFileStopped p name why tile old new ⊎ IsFileUnbegun p why tile old new
+
 abbrev pub IsFileHalted : Plan → Text → Halt → Meaning → Meaning → Type 0
-IsFileHalted p name (halt.Bad tile number) old new = IsFileStopped p name (halt.Bad tile number) tile old new
-IsFileHalted p name (halt.TooLong tile) old new = IsFileStopped p name (halt.TooLong tile) tile old new
+IsFileHalted p name (halt.Bad tile number) old new = IsFileSpoiled p name (halt.Bad tile number) tile old new
+IsFileHalted p name (halt.TooLong tile) old new = IsFileSpoiled p name (halt.TooLong tile) tile old new
 IsFileHalted p name halt.Failed old new = IsFileBegun p name old new
 IsFileHalted p name halt.NoMemory old new = IsFileBegun p name old new
 

@@ -1,5 +1,5 @@
 -- What becomes of an input: its verdict, the line said, and what stands afterwards; and how a run ends over words that are no command.
-use Rattle.std.specs.Prelude.{◌≡◌, ◌⊎◌, ℕ, ◌+◌, ◌^◌, ◌<◌, ◌≤◌, List, [], ◌++◌, length, Option, codes}
+use Rattle.std.specs.Prelude.{◌≡◌, ◌⊎◌, ℕ, true, ◌+◌, ◌^◌, ◌<◌, ◌≤◌, List, [], ◌++◌, length, Option, codes}
 use Rattle.std.specs.Option.{option_map}
 use Rattle.std.specs.Fmt.{decimal}
 use Rattle.jx_io.specs.Causes.{Rose}
@@ -124,18 +124,19 @@ IsUnfinished name bytes old new = IsUntouched old new ⊎ IsPartlyMade name byte
 abbrev pub IsBegun : Text → List ℕ → Meaning → Meaning → Type 0
 IsBegun name bytes old new = IsUntouched old new ⊎ (IsPartlyMade name bytes old new ⊎ IsMade name bytes old new)
 
--- what stands of an output that was begun: a front of whole rounds, or of the whole file, that wasn't finished; or, under its name, the whole
--- file and nothing less
+-- what stands of an output: nothing; a front of the whole file, or of whole rounds where no index is asked, that wasn't finished; or, under its
+-- name, the whole file and nothing less
 abbrev pub LeavesBegun : Text → Aim → List ℕ → Meaning → Meaning → Type 0
 LeavesBegun name aim input old new =
-    ((bytes : List ℕ) × (IsFrontOf aim input bytes ⊎ IsRewritten aim input bytes) × IsUnfinished name bytes old new)
-    ⊎ ((out : List ℕ) × IsRewritten aim input out × IsMade name out old new)
+    IsUntouched old new
+    ⊎ (((bytes : List ℕ) × (IsFrontOf aim input bytes ⊎ IsRewritten aim input bytes) × IsUnfinished name bytes old new)
+    ⊎ ((out : List ℕ) × IsRewritten aim input out × IsMade name out old new))
 
 -- nothing was made, and the input wasn't accepted
 abbrev pub IsRefused : ℕ → Meaning → Meaning → Type 0
 IsRefused blocks old new = (blocks ≡ 0) × IsUntouched old new
 
--- the input was accepted, and its output begun
+-- the input was accepted, and its output may have been begun
 pub record IsAborted (name : Text) (aim : Aim) (input : List ℕ) (blocks : ℕ) (old new : Meaning) : Type 0 where
   pub within : length input ≤ most_bytes
   pub count : HasBlocks aim.reduce input blocks
@@ -159,7 +160,7 @@ pub record IsOverAll (aim : Aim) (input : List ℕ) (blocks : ℕ) (old new : Me
   pub count : HasBlocks 0 input blocks
   pub same : IsUntouched old new
 
--- nothing was made, or the input was accepted and its output begun
+-- nothing was made, or the input was accepted and its output may have been begun
 abbrev pub IsCutShort : Text → Aim → List ℕ → ℕ → Meaning → Meaning → Type 0
 IsCutShort name aim input blocks old new = IsRefused blocks old new ⊎ (IsOver aim input blocks old new ⊎ (IsOverAll aim input blocks old new ⊎ IsAborted name aim input blocks old new))
 
@@ -172,18 +173,18 @@ pub record IsWhole (name : Text) (aim : Aim) (input : List ℕ) (blocks bytes : 
   pub count : HasBlocks aim.reduce input blocks
   pub long : bytes ≡ length out
 
+-- where an index is asked, nothing was made of a file that can't be written to its end
+abbrev pub IsUnbegun : Aim → Meaning → Meaning → Type 0
+IsUnbegun aim old new = (aim.wanted.marks.tlm ≡ true) × IsUntouched old new
+
 -- a tile-part was too long: the rounds before its tile's were written
 pub record IsStoppedAt (name : Text) (aim : Aim) (input : List ℕ) (tile blocks : ℕ) (old new : Meaning) : Type 0 where
-  pub bytes : List ℕ
-  pub is : IsCut aim input tile bytes
-  pub stopped : IsStopped name bytes old new
+  pub stands : ((bytes : List ℕ) × IsCut aim input tile bytes × IsStopped name bytes old new) ⊎ IsUnbegun aim old new
   pub count : HasBlocks aim.reduce input blocks
 
 -- a block was wrong: the rounds before that of its tile were written
 pub record IsStoppedByBlock (name : Text) (aim : Aim) (input : List ℕ) (number blocks : ℕ) (old new : Meaning) : Type 0 where
-  pub bytes : List ℕ
-  pub is : IsCutByBlock aim input number bytes
-  pub stopped : IsStopped name bytes old new
+  pub stands : ((bytes : List ℕ) × IsCutByBlock aim input number bytes × IsStopped name bytes old new) ⊎ IsUnbegun aim old new
   pub count : HasBlocks aim.reduce input blocks
 
 -- limit 7 alone is passed by an input that was accepted

@@ -116,14 +116,15 @@ pub record IsRewritten (aim : Aim) (input out : List ℕ) : Type 0 where
 abbrev pub round_start : Stream → ℕ → ℕ
 round_start s t = (round_of (blocks_in_tile s) t).start
 
--- the main header and the tile-parts of the first tiles, in which no block is wrong
+-- the main header and the tile-parts of the first tiles, in which no block is wrong, where no index stands between them
 pub record IsFront (w : Wanted) (r : Rule) (s : Stream) (blocks : List Block) (tiles : ℕ) (bytes : List ℕ) : Type 0 where
+  pub unindexed : w.marks.tlm ≡ false
   pub parts : ℕ → List TilePart
   pub right : (t : ℕ) → t < tiles → IsRight w s blocks t
   pub are : (t : ℕ) → t < tiles → AreTilePartsOf w.marks (headers_of w r s blocks) (blocks_written w r s blocks) t (parts t)
   pub bytes_are : bytes ≡ main_bytes (headers_of w r s blocks) ++ flat_map (part_bytes (length s.siz.comps)) (joined parts 0 tiles)
 
--- what a run may have written of an input before it is done: whole rounds, of which none has a tile that isn't written
+-- what a run without an index may have written of an input before it is done: whole rounds, of which none has a tile that isn't written
 pub record IsFrontOf (aim : Aim) (input bytes : List ℕ) : Type 0 where
   pub stream : Stream
   pub blocks : List Block

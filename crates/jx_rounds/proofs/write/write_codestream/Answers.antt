@@ -1,7 +1,7 @@
 use Rattle.std.proofs.Common.{◌∙◌, inr, refl}
 use Rattle.std.proofs.lemmas.Result.{IfErr-weaker, IfOk-weaker, on_ok_weaker}
 use Rattle.jx_rounds.proofs.TapedLemmas.{fault_taped, tape_none}
-use Rattle.jx_rounds.proofs.WriteLemmas.{first_ends, first_place, front_after, halted_after, header_cut, same_err}
+use Rattle.jx_rounds.proofs.WriteLemmas.{first_ends, first_place, front_after, halted_after, head_cut, same_err}
 use Rattle.jx_rounds.proofs.write.write_codestream.Goals as goal
 
 pub write_tiles-requires-clause-may : goal.write_tiles-requires-clause-may
@@ -11,14 +11,14 @@ pub write_end-requires : goal.write_end-requires
 write_end-requires g c = record { may = rw (c.write_tiles.ensures.other, c.put.ensures.other) c.requires.may }
 
 pub returns-in-Ok-write_tiles-clause-ok : goal.returns-in-Ok-write_tiles-clause-ok
-returns-in-Ok-write_tiles-clause-ok g c = IfOk-weaker c.write_end.result _ _ (λ bytes whole. whole c.args.making.now (g.W.ByteWriter.written c.args.writer.now)
-    (front_after c.args.making.now c.args.header.now _ c.in-Ok-write_tiles.before (g.W.ByteWriter.written c.args.writer.now) (g.W.ByteWriter.written c.put.new.writer)
-    (g.W.ByteWriter.written c.write_tiles.new.writer) c.requires.header c.in-Ok.ensures.ok c.in-Ok-write_tiles.ensures.ok)) c.write_end.ensures.ok
+returns-in-Ok-write_tiles-clause-ok g c = IfOk-weaker c.write_end.result _ _ (λ bytes whole. whole c.args.making.now c.args.head.now (g.W.ByteWriter.written c.args.writer.now)
+    (front_after c.args.making.now c.args.head.now _ c.in-Ok-write_tiles.before (g.W.ByteWriter.written c.args.writer.now) (g.W.ByteWriter.written c.put.new.writer)
+    (g.W.ByteWriter.written c.write_tiles.new.writer) _ _ c.in-Ok.ensures.ok c.in-Ok-write_tiles.ensures.ok)) c.write_end.ensures.ok
 
 pub returns-in-Ok-write_tiles-clause-err : goal.returns-in-Ok-write_tiles-clause-err
-returns-in-Ok-write_tiles-clause-err g c = IfErr-weaker c.write_end.result _ _ (λ h halted. halted c.args.making.now (g.W.ByteWriter.written c.args.writer.now)
-    (front_after c.args.making.now c.args.header.now _ c.in-Ok-write_tiles.before (g.W.ByteWriter.written c.args.writer.now) (g.W.ByteWriter.written c.put.new.writer)
-    (g.W.ByteWriter.written c.write_tiles.new.writer) c.requires.header c.in-Ok.ensures.ok c.in-Ok-write_tiles.ensures.ok)) c.write_end.ensures.err
+returns-in-Ok-write_tiles-clause-err g c = IfErr-weaker c.write_end.result _ _ (λ h halted. halted c.args.making.now c.args.head.now (g.W.ByteWriter.written c.args.writer.now)
+    (front_after c.args.making.now c.args.head.now _ c.in-Ok-write_tiles.before (g.W.ByteWriter.written c.args.writer.now) (g.W.ByteWriter.written c.put.new.writer)
+    (g.W.ByteWriter.written c.write_tiles.new.writer) _ _ c.in-Ok.ensures.ok c.in-Ok-write_tiles.ensures.ok)) c.write_end.ensures.err
 
 pub returns-in-Ok-write_tiles-clause-tape : goal.returns-in-Ok-write_tiles-clause-tape
 returns-in-Ok-write_tiles-clause-tape g c = c.write_tiles.ensures.tape
@@ -36,8 +36,8 @@ pub returns-in-Ok-write_tiles-clause-other : goal.returns-in-Ok-write_tiles-clau
 returns-in-Ok-write_tiles-clause-other g c = c.write_end.ensures.other ∙ c.write_tiles.ensures.other ∙ c.put.ensures.other
 
 pub returns-in-Err-write_tiles-clause-err : goal.returns-in-Err-write_tiles-clause-err
-returns-in-Err-write_tiles-clause-err g c = halted_after c.args.making.now c.args.header.now c.in-Err-write_tiles.halt (g.W.ByteWriter.written c.args.writer.now) (g.W.ByteWriter.written c.put.new.writer)
-    (g.W.ByteWriter.written c.write_tiles.new.writer) c.requires.header c.in-Ok.ensures.ok c.in-Err-write_tiles.ensures.err
+returns-in-Err-write_tiles-clause-err g c = halted_after c.args.making.now c.args.head.now c.in-Err-write_tiles.halt (g.W.ByteWriter.written c.args.writer.now) (g.W.ByteWriter.written c.put.new.writer)
+    (g.W.ByteWriter.written c.write_tiles.new.writer) c.in-Ok.ensures.ok c.in-Err-write_tiles.ensures.err
 
 pub returns-in-Err-write_tiles-clause-tape : goal.returns-in-Err-write_tiles-clause-tape
 returns-in-Err-write_tiles-clause-tape g c = c.write_tiles.ensures.tape
@@ -49,7 +49,7 @@ pub returns-in-Err-write_tiles-clause-other : goal.returns-in-Err-write_tiles-cl
 returns-in-Err-write_tiles-clause-other g c = c.write_tiles.ensures.other ∙ c.put.ensures.other
 
 pub returns-in-Err-clause-err : goal.returns-in-Err-clause-err
-returns-in-Err-clause-err g c = header_cut c.args.making.now c.args.header.now c.in-Err.halt (g.W.ByteWriter.written c.args.writer.now) (g.W.ByteWriter.written c.put.new.writer) c.requires.header c.in-Err.ensures.fault c.in-Err.ensures.front
+returns-in-Err-clause-err g c = head_cut c.args.making.now c.args.head.now c.in-Err.halt (g.W.ByteWriter.written c.args.writer.now) (g.W.ByteWriter.written c.put.new.writer) c.in-Err.ensures.fault c.in-Err.ensures.front
 
 pub returns-in-Err-clause-tape : goal.returns-in-Err-clause-tape
 returns-in-Err-clause-tape g c = rw c.requires.empty (tape_none c.args.crew.now.work c.args.making.now.blocks)

@@ -4,7 +4,7 @@ use Rattle.jx_store.specs.declared.event.Taped.{Taped}
 use Rattle.jx_store.specs.declared.work.Named.{Named}
 use Rattle.jx_plan.specs.Plan.{Plan}
 use Rattle.jx_tier2_writer.specs.Tile.{first_block}
-use Rattle.jx_rounds.specs.MadeRounds.{IsExtent, entry_of, parts_of}
+use Rattle.jx_rounds.specs.MadeRounds.{IsExtent, entry_of}
 use Rattle.jx_rounds.specs.Rounds.{HasTape, IsPlace}
 use Rattle.jx_rounds.proofs.WriteLemmas.{cut_none, cut_round, round_written, same_err, unmade_unwritten}
 use Rattle.jx_rounds.proofs.TapedLemmas.{fault_round, unmade_round}
@@ -28,49 +28,53 @@ returns-in_default-mark_after-clause-err g c = cut_none c.args.making.now c.args
 pub returns-in_default-mark_after-clause-kept : goal.returns-in_default-mark_after-clause-kept
 returns-in_default-mark_after-clause-kept g c = c.mark_after.ensures.kept
 
-pub returns-in-Ok-put_tiles-clause-ok : goal.returns-in-Ok-put_tiles-clause-ok
-returns-in-Ok-put_tiles-clause-ok g c = rw c.in-Some.ensures.next.0 (round_written c.args.making.now c.args.mark.tile c.in-Ok.round.extent.tile c.args.mark.bytes c.in-Some.next.bytes (parts_of c.in-Ok-packed_tiles.tiles.items) _ _
-    c.in-Ok-packed_tiles.ensures.parts (rw c.deref-3.ensures.value at c.in-Ok-put_tiles.ensures.ok) (rw c.deref-2.ensures.value at c.in-Some.ensures.next.2))
+pub returns-in-Ok-put_round-clause-ok : goal.returns-in-Ok-put_round-clause-ok
+returns-in-Ok-put_round-clause-ok g c = rw c.in-Some.ensures.next.0 (round_written c.args.making.now c.args.mark.tile c.in-Ok.round.extent.tile c.args.mark.bytes c.in-Some.next.bytes c.in-Ok-packed_tiles.tiles.items _ _ c.args.lengths.now _
+    c.in-Ok-packed_tiles.ensures.parts (rw c.deref-3.ensures.value at c.in-Ok-put_round.ensures.ok) (rw c.deref-2.ensures.value at c.in-Some.ensures.next.2)
+    (rw c.deref-2.ensures.value at c.in-Some.ensures.lengths))
 
-pub returns-in-Ok-put_tiles-clause-later : goal.returns-in-Ok-put_tiles-clause-later
-returns-in-Ok-put_tiles-clause-later g c = rw c.in-Some.ensures.next.0 c.in-Ok.ensures.later
+pub returns-in-Ok-put_round-clause-later : goal.returns-in-Ok-put_round-clause-later
+returns-in-Ok-put_round-clause-later g c = rw c.in-Some.ensures.next.0 c.in-Ok.ensures.later
 
-pub returns-in-Ok-put_tiles-clause-place : goal.returns-in-Ok-put_tiles-clause-place
-returns-in-Ok-put_tiles-clause-place g c = rw (c.in-Some.ensures.next.0, c.in-Some.ensures.next.1) c.in-Ok.ensures.place
+pub returns-in-Ok-put_round-clause-place : goal.returns-in-Ok-put_round-clause-place
+returns-in-Ok-put_round-clause-place g c = rw (c.in-Some.ensures.next.0, c.in-Some.ensures.next.1) c.in-Ok.ensures.place
 
-pub returns-in-Ok-put_tiles-clause-ends : goal.returns-in-Ok-put_tiles-clause-ends
-returns-in-Ok-put_tiles-clause-ends g c = rw c.in-Some.ensures.next.0 c.in-Ok.ensures.ends
+pub returns-in-Ok-put_round-clause-ends : goal.returns-in-Ok-put_round-clause-ends
+returns-in-Ok-put_round-clause-ends g c = rw c.in-Some.ensures.next.0 c.in-Ok.ensures.ends
 
-pub returns-in-Ok-put_tiles-clause-tape : goal.returns-in-Ok-put_tiles-clause-tape
-returns-in-Ok-put_tiles-clause-tape g c =
+pub returns-in-Ok-put_round-clause-tape : goal.returns-in-Ok-put_round-clause-tape
+returns-in-Ok-put_round-clause-tape g c =
     let p : Plan = c.args.making.now in
     let whole : length c.in-Ok.round.entries.items ≡ c.in-Ok.round.extent.blocks = sym (ap (λ (l : List (Taped (Named WrittenBlock))). length l) c.deref.ensures.value) ∙ c.in-Ok-packed_tiles.ensures.whole in
     let end = round_end p c.args.mark.tile c.in-Ok.round.extent.tile c.args.mark.block c.in-Ok.round.extent.blocks c.in-Ok.round.extent.block (length c.in-Ok.round.entries.items) c.in-Ok.round.extent.counts.items
     c.in-Ok.ensures.extent c.requires.block c.in-Ok.ensures.tile c.in-Ok.ensures.place whole in
-    rw (c.in-Some.ensures.next.1, c.put_entries.ensures, c.mark_after.ensures.kept, c.deref-in-Ok-put_tiles.ensures.value)
+    rw (c.in-Some.ensures.next.1, c.put_entries.ensures, c.mark_after.ensures.kept, c.deref-in-Ok-put_round.ensures.value)
     (subst (λ (n : ℕ). HasTape p c.args.crew.now.work n (c.args.tape.now.items ++ map entry_of c.in-Ok.round.entries.items)) end (c.in-Ok.ensures.tape c.args.tape.now.items c.requires.tape))
 
-pub returns-in-Ok-put_tiles-clause-other : goal.returns-in-Ok-put_tiles-clause-other
-returns-in-Ok-put_tiles-clause-other g c = c.put_tiles.ensures.other
+pub returns-in-Ok-put_round-clause-other : goal.returns-in-Ok-put_round-clause-other
+returns-in-Ok-put_round-clause-other g c = c.put_round.ensures.other
 
 pub returns-clause-err : goal.returns-clause-err
-returns-clause-err g c = cut_round c.args.making.now c.args.mark.tile c.in-Ok.round.extent.tile c.in-Ok.round.extent.block (parts_of c.in-Ok-packed_tiles.tiles.items) c.in-Err-put_tiles.halt _ _ c.in-Ok.ensures.place
-    c.in-Ok.ensures.ends c.in-Ok-packed_tiles.ensures.parts c.in-Err-put_tiles.ensures.fault (rw c.deref-3.ensures.value at c.put_tiles.ensures.front)
+returns-clause-err g c = cut_round c.args.making.now c.args.mark.tile c.in-Ok.round.extent.tile c.in-Ok.round.extent.block c.in-Ok-packed_tiles.tiles.items c.in-Err-put_round.halt _ _ c.in-Ok.ensures.place
+    c.in-Ok.ensures.ends c.in-Ok-packed_tiles.ensures.parts c.in-Err-put_round.ensures.fault (rw c.deref-3.ensures.value at c.put_round.ensures.front)
 
 pub returns-clause-kept : goal.returns-clause-kept
 returns-clause-kept g c = c.mark_after.ensures.kept
 
 pub returns-clause-cause : goal.returns-clause-cause
-returns-clause-cause g c = λ failed. c.in-Err-put_tiles.ensures.cause (same_err _ _ failed)
+returns-clause-cause g c = λ failed. c.in-Err-put_round.ensures.cause (same_err _ _ failed)
 
 pub returns-clause-other : goal.returns-clause-other
-returns-clause-other g c = c.put_tiles.ensures.other
+returns-clause-other g c = c.put_round.ensures.other
 
 pub returns-clause-rose : goal.returns-clause-rose
-returns-clause-rose g c = λ rose. same_err _ _ (c.in-Err-put_tiles.ensures.rose rose)
+returns-clause-rose g c = λ rose. same_err _ _ (c.in-Err-put_round.ensures.rose rose)
 
 pub returns-in-Err-clause-round : goal.returns-in-Err-clause-round
 returns-in-Err-clause-round g c = unmade_round c.args.making.now c.args.mark.tile c.in-Err.halt c.in-Err.ensures.unmade
 
 pub returns-clause-round : goal.returns-clause-round
-returns-clause-round g c = fault_round c.args.making.now c.args.mark.tile c.in-Err-put_tiles.halt c.in-Err-put_tiles.ensures.fault
+returns-clause-round g c = fault_round c.args.making.now c.args.mark.tile c.in-Err-put_round.halt c.in-Err-put_round.ensures.fault
+
+pub mark_after-requires : goal.mark_after-requires
+mark_after-requires g c = omega (arith, c.in-Ok-packed_tiles.ensures.count, ap (λ l. length l) c.deref-2.ensures.value)

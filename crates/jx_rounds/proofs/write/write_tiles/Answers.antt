@@ -5,7 +5,7 @@ use Rattle.jx_rounds.proofs.write.write_tiles.Goals as goal
 
 pub loop-mark-init : goal.loop-mark-init
 loop-mark-init g c = record {
-  rounds = rounds_none c.args.making.now c.args.header (g.W.ByteWriter.written c.args.writer.now);
+  rounds = rounds_none c.args.making.now c.args.header (g.W.ByteWriter.written c.args.writer.now) c.args.lengths.now;
   place = first_place c.args.making.now;
   ends = first_ends c.args.making.now;
   tape = first_tape c.args.making.now c.args.crew.now.work c.args.tape.now.items c.requires.empty;
@@ -22,7 +22,7 @@ write_round-requires-clause-begins g c =
 pub returns-in-Err-clause-err : goal.returns-in-Err-clause-err
 returns-in-Err-clause-err g c =
     unwritten_after c.args.making.now c.loop-mark.mark.tile c.args.header c.loop-mark.mark.bytes c.in-Err.halt (g.W.ByteWriter.written c.args.writer.now) (g.W.ByteWriter.written c.loop-mark.writer)
-    (g.W.ByteWriter.written c.write_round.new.writer) c.loop-mark.invariant.rounds c.in-Err.ensures.err
+    (g.W.ByteWriter.written c.write_round.new.writer) _ _ c.loop-mark.invariant.rounds c.in-Err.ensures.err
 
 pub returns-in-Err-clause-tape : goal.returns-in-Err-clause-tape
 returns-in-Err-clause-tape g c = rw c.in-Err.ensures.kept c.loop-mark.invariant.tape.of
@@ -33,7 +33,7 @@ returns-in-Err-clause-cause g c = λ failed. rw (← c.loop-mark.invariant.same)
 pub loop-mark-preserved : goal.loop-mark-preserved
 loop-mark-preserved g c = record {
   rounds = rounds_then c.args.making.now 0 c.loop-mark.mark.tile c.in-Ok.next.tile c.args.header c.loop-mark.mark.bytes c.in-Ok.next.bytes (g.W.ByteWriter.written c.args.writer.now) (g.W.ByteWriter.written c.loop-mark.writer)
-      (g.W.ByteWriter.written c.write_round.new.writer) c.loop-mark.invariant.rounds c.in-Ok.ensures.ok;
+      (g.W.ByteWriter.written c.write_round.new.writer) _ _ _ c.loop-mark.invariant.rounds c.in-Ok.ensures.ok;
   place = c.in-Ok.ensures.place;
   ends = c.in-Ok.ensures.ends;
   tape = c.in-Ok.ensures.tape;
@@ -45,7 +45,7 @@ loop-mark-preserved g c = record {
 
 pub returns-clause-ok : goal.returns-clause-ok
 returns-clause-ok g c =
-    rounds_all c.args.making.now c.loop-mark.mark.tile c.tile_count-tiles.result c.loop-mark.mark.block c.args.header c.loop-mark.mark.bytes (g.W.ByteWriter.written c.args.writer.now) (g.W.ByteWriter.written c.loop-mark.writer)
+    rounds_all c.args.making.now c.loop-mark.mark.tile c.tile_count-tiles.result c.loop-mark.mark.block c.args.header c.loop-mark.mark.bytes (g.W.ByteWriter.written c.args.writer.now) (g.W.ByteWriter.written c.loop-mark.writer) _ _
     c.loop-mark.invariant.place c.tile_count-tiles.ensures.count (omega (arith, c.loop-mark-test.false)) c.loop-mark.invariant.rounds
 
 pub returns-clause-tape : goal.returns-clause-tape

@@ -4,7 +4,7 @@ use Rattle.jx_rounds.proofs.write.write_tiles.Given as goal
 
 abbrev pub invariant-loop-mark : goal.invariant-loop-mark
 invariant-loop-mark g l = record {
-  rounds : HasRounds l.making 0 l.mark.tile l.header l.mark.bytes (g.W.ByteWriter.written l.initial.writer) (g.W.ByteWriter.written l.writer);
+  rounds : HasRounds l.making 0 l.mark.tile l.header l.mark.bytes (g.W.ByteWriter.written l.initial.writer) (g.W.ByteWriter.written l.writer) l.initial.lengths l.lengths;
   place : IsPlace l.making l.mark.tile l.mark.block;
   ends : EndsRound l.making l.mark.tile;
   tape : HasTape l.making l.crew.work l.mark.block l.tape.items;

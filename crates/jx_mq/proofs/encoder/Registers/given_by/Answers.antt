@@ -1,13 +1,10 @@
-use Rattle.std.proofs.Common.{◌≡◌, ◌≤◌, length, vec_len, vec_capacity, ap, ◌∙◌, arith}
-use Rattle.std.proofs.lemmas.List.{length-reverse}
-use Rattle.jx_base.proofs.Tests.{on_err}
+use Rattle.std.proofs.Common.{◌≡◌, ap, ◌∙◌, arith}
 use Rattle.jx_coder_specs.specs.MqWriting.{MqWriter, mq_byte_out}
 use Rattle.jx_mq.specs.Coding.{writer_of}
 use Rattle.jx_mq.specs.Shifting.{mq_moved_by}
 use Rattle.jx_mq.proofs.Renormals.{renormalizing_begins, byte_out_a}
 use Rattle.jx_mq.proofs.Shifts.{short_some, short_rest}
 use Rattle.jx_mq.proofs.Outs.{few_of, c_room, renormalizing_by, renormalized_last, coder_last}
-use Rattle.jx_mq.proofs.Lengths.{renormalizing_least}
 use Rattle.jx_mq.proofs.encoder.Registers.given_by.Goals as goal
 
 pub loop-now-init : goal.loop-now-init
@@ -15,20 +12,10 @@ loop-now-init c = record {
   shifting = renormalizing_begins _ c.requires.coding (short_some _ _ c.requires.shifts).1;
   short = c.requires.shifts;
   wide = c.requires.wide;
-  limit = omega arith;
 }
 
 pub shifted-moved-requires-clause-narrow : goal.shifted-moved-requires-clause-narrow
 shifted-moved-requires-clause-narrow c = few_of _ _ _ c.loop-now-test.true c.loop-now.invariant.short
-
-pub returns-in_err-now-clause-room : goal.returns-in_err-now-clause-room
-returns-in_err-now-clause-room c =
-    let full : vec_capacity c.loop-now.older ≤ vec_len c.loop-now.older = c.in_err-now.ensures.room in
-    let long : vec_len c.loop-now.older ≡ length c.loop-now.older.items = c.loop-now.older.ok.0 in
-    let turned = length-reverse c.loop-now.older.items in
-    let before = c.loop-now.invariant.limit in
-    let more : length (writer_of c.loop-now.now c.loop-now.older.items).bytes ≤ _ = renormalizing_least _ _ _ c.loop-now.invariant.short c.loop-now.invariant.shifting in
-    on_err c.from_residual.result (omega arith)
 
 pub loop-now-preserved : goal.loop-now-preserved
 loop-now-preserved c =
@@ -37,13 +24,10 @@ loop-now-preserved c =
     let a = ap (λ (w : MqWriter). w.a) now ∙ byte_out_a (mq_moved_by c.loop-now.now.ct (writer_of c.loop-now.now c.loop-now.older.items)) in
     let wide = c.shifted-moved.ensures.wide in
     let kept = c.in_ok-now.ensures.a in
-    let grows : vec_capacity c.loop-now.older ≤ vec_capacity c.byte_out.new.older = c.in_ok-now.ensures.limit in
-    let before = c.loop-now.invariant.limit in
     record {
       shifting = rw now (renormalizing_by _ _ _ c.loop-now-test.true c.loop-now.invariant.short c.loop-now.invariant.shifting);
       short = rw a (short_rest _ _ _ c.loop-now-test.true c.loop-now.invariant.short);
       wide = omega arith;
-      limit = omega arith;
     }
 
 pub shifted-requires-clause-room : goal.shifted-requires-clause-room
