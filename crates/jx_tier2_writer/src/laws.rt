@@ -98,7 +98,7 @@ pub fn index_finds_parts()
     ensures stand { (m : Marks) (s : Stream) (blocks : List Block) (b : List ℕ) (out : IsOutput m s blocks b) → AreReady m s
         → AllShort out.parts (tile_number s.siz) → (i : ℕ) (p : TilePart) → slice_get (joined out.parts 0 (tile_number s.siz)) i ≡ Some p
         → take p.sot.psot (drop (first_sot s.siz (stream_read m s out.parts).main + length_before i (map entry_of (joined out.parts 0 (tile_number s.siz)))) b)
-            ≡ part_bytes (length s.siz.comps) p }
+        ≡ part_bytes (length s.siz.comps) p }
 {}
 
 /// What the index tells of a tile's tile-parts are the tile and how many bytes each has (`lengths`); where it is asked it has room
