@@ -1,6 +1,6 @@
 -- Headers with an index behind the main one say what they said: they are ready to be written where the headers were, and give the same
 -- packets.
-use Rattle.std.proofs.Common.{◌≡◌, ◌∙◌, ◌≤◌, ◌+◌, ◌++◌, ℕ, true, arith, List, [], length, map, refl, sym, ap, subst, nat_lt, Option}
+use Rattle.std.proofs.Common.{◌≡◌, ◌∙◌, ◌≤◌, ◌++◌, ℕ, true, arith, List, [], length, map, refl, sym, ap, subst, nat_lt, Option}
 use Rattle.std.specs.List.{find, flat_map}
 use Rattle.jx_base.specs.declared.pieces.Block.{Block}
 use Rattle.jx_geom.specs.Geometry.{Geometry}
