@@ -54,8 +54,8 @@ pub fn output_is_spelled()
         → AllShort out.parts (tile_number s.siz) → IsRead b (stream_read m s out.parts) }
 {}
 
-/// This stream says what the headers say that the file was written from: each tile's header has PLT segments behind it at most, so
-/// all parameters, steps, planes, places and entries are the same.
+/// This stream says what the headers say that the file was written from: the main header has the index behind it, where it is asked,
+/// and each tile's header PLT segments at most, so all parameters, steps, planes, places and entries are the same.
 pub fn output_has_headers()
     ensures { (m : Marks) (s : Stream) (blocks : List Block) (b : List ℕ) (out : IsOutput m s blocks b) → AreReady m s
         → AllShort out.parts (tile_number s.siz) → HasHeadersOf (index_of m (joined out.parts 0 (tile_number s.siz))) s (stream_read m s out.parts) }
@@ -81,8 +81,8 @@ pub fn output_keeps_blocks()
 {}
 
 /// A written file keeps to more than a reader asks for: each tile-part tells its tile's number of tile-parts, SOP and EPH stand with
-/// each packet exactly where the tile's COD announces them, PLT segments that are asked for tell the packets' lengths, and EOC ends
-/// the file.
+/// each packet exactly where the tile's COD announces them, PLT segments that are asked for tell the packets' lengths, the index that is
+/// asked for names just these tile-parts, and EOC ends the file.
 pub fn output_is_strict()
     ensures { (m : Marks) (s : Stream) (blocks : List Block) (b : List ℕ) (out : IsOutput m s blocks b) → AreReady m s
         → AllShort out.parts (tile_number s.siz) → AreBlocksOf s blocks → All IsSound blocks → IsStrict m b (stream_read m s out.parts) }
@@ -145,8 +145,8 @@ pub fn one_output()
 {}
 
 /// The headers that are written, with 1 to 65,535 layers, are such as a file may be written from, where nothing is in the way: no
-/// POC and no PLT stands in them, each COD announces SOP and EPH as asked, and no tile is cut into over 255 tile-parts (T.800, A.4,
-/// A.6 and A.8).
+/// POC and no PLT stands in them, each COD announces SOP and EPH as asked, no tile is cut into over 255 tile-parts, and the index has
+/// room for all tile-parts where it is asked (T.800, A.4, A.6 to A.8).
 pub fn written_is_ready()
     ensures { (w : Wanted) (layers : ℕ) (s : Stream) → 1 ≤ layers → layers < 2 ^ 16 → MayBeWanted w → HeadersStand s → StreamInRange s → totals_fault s ≡ None
         → IsFree s w layers → AreReady w.marks (headers_with w layers s) }
