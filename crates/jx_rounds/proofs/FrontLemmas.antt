@@ -99,7 +99,7 @@ lead_next p from t next more later first second sent front = subst (IsShortFront
 
 -- one tile more
 sent_more : (t : ℕ) (tiles : List (List (List (List ℕ)))) (tile : List (List (List ℕ))) → sent_from t (tiles ++ tile ∷ []) ≡ sent_from t tiles ++ sent_of (t + length tiles) (map concat tile)
-sent_more t [] tile = let here : t + 0 ≡ t = omega arith in rw here (append-nil (sent_of t (map concat tile)))
+sent_more t [] tile = let here : t ≡ t + 0 = omega arith in append-nil (sent_of t (map concat tile)) ∙ ap (λ (n : ℕ). sent_of n (map concat tile)) here
 sent_more t (first ∷ tiles) tile =
     let own : List PartSent = sent_of t (map concat first) in
     let here : (t + 1) + length tiles ≡ t + length (first ∷ tiles) = omega arith in

@@ -1,7 +1,6 @@
 -- The tile-parts of a front, as headers and code-blocks give them: their bytes, their lengths, and how many there are.
-use Rattle.std.proofs.Common.{◌≡◌, ◌∙◌, ◌<◌, ◌≤◌, ◌+◌, ◌⊎◌, ℕ, zero, suc, true, List, [], ◌∷◌, ◌++◌, length, map, refl, ap, sym, subst, arith, inl, inr, append_assoc, append-nil}
+use Rattle.std.proofs.Common.{◌≡◌, ◌∙◌, ◌<◌, ◌≤◌, ◌+◌, ℕ, zero, suc, true, List, [], ◌∷◌, ◌++◌, length, map, refl, ap, sym, arith, inr}
 use Rattle.std.specs.List.{flat_map}
-use Rattle.std.proofs.lemmas.Bool.{cases_lt}
 use Rattle.std.proofs.lemmas.Grind.{flat_map-append}
 use Rattle.std.proofs.lemmas.List.{length-map, map-append}
 use Rattle.jx_base.specs.Joined.{joined, sum_below}
@@ -14,9 +13,8 @@ use Rattle.jx_codestream.specs.First.{tile_number}
 use Rattle.jx_codestream.specs.Params.{header_of}
 use Rattle.jx_codestream.specs.Spells.{TilePart, all_bytes, part_bytes}
 use Rattle.jx_options.specs.declared.Marks.{Marks}
-use Rattle.jx_plan.specs.Groups.{HasFewEntries, groups_of, parts_total}
+use Rattle.jx_plan.specs.Groups.{HasFewEntries, IsPartCount, groups_of}
 use Rattle.jx_plan.specs.Plan.{Plan, headers_of}
-use Rattle.jx_tile.specs.Covered.{IsListOf}
 use Rattle.jx_tier2_reader.specs.Written.{Packets, bytes_from}
 use Rattle.jx_tier2_writer.specs.Index.{entry_of, index_segments}
 use Rattle.jx_tier2_writer.specs.Tile.{main_bytes}
@@ -40,9 +38,9 @@ tiles_bytes p parts zero =
 tiles_bytes p parts (suc n) =
     let f : TilePart → List ℕ = part_bytes (length p.stream.siz.comps) in
     let next : suc n ≡ n + 1 = omega arith in
-    rw next (ap bytes_sent (joined_next (sent_by p parts) 0 n (omega arith)) ∙ both_sent (joined (sent_by p parts) 0 n) (sent_by p parts n)
+    ap (λ (k : ℕ). bytes_sent (joined (sent_by p parts) 0 k)) next ∙ ap bytes_sent (joined_next (sent_by p parts) 0 n (omega arith)) ∙ both_sent (joined (sent_by p parts) 0 n) (sent_by p parts n)
     ∙ ap (λ (b : List ℕ). b ++ bytes_sent (sent_by p parts n)) (tiles_bytes p parts n) ∙ ap (λ (b : List ℕ). flat_map f (joined parts 0 n) ++ b) (tile_bytes (length p.stream.siz.comps) n (parts n))
-    ∙ sym (flat_map-append f (joined parts 0 n) (parts n)) ∙ sym (ap (λ (ps : List TilePart). flat_map f ps) (joined_next parts 0 n (omega arith))))
+    ∙ sym (flat_map-append f (joined parts 0 n) (parts n)) ∙ sym (ap (λ (ps : List TilePart). flat_map f ps) (joined_next parts 0 n (omega arith))) ∙ sym (ap (λ (k : ℕ). flat_map f (joined parts 0 k)) next)
 
 pub front_bytes : (p : Plan) (n : ℕ) (sent : List PartSent) (front : IsShortFront p n sent) → bytes_sent sent ≡ flat_map (part_bytes (length p.stream.siz.comps)) (joined front.parts 0 n)
 front_bytes p n sent front = ap bytes_sent front.sent_are ∙ tiles_bytes p front.parts n
@@ -73,9 +71,10 @@ tiles_lengths p parts (suc n) are =
     let next : suc n ≡ n + 1 = omega arith in
     let own : lengths_sent (sent_by p parts n) ≡ map entry_of (parts n) =
     tile_lengths p.wanted.marks (headers_of p) (blocks_of p) (length p.stream.siz.comps) n (parts n) (comps_stay p.wanted p.layers p.stream) (are n (omega arith)) in
-    rw next (ap lengths_sent (joined_next (sent_by p parts) 0 n (omega arith)) ∙ map-append length_sent (joined (sent_by p parts) 0 n) (sent_by p parts n)
+    ap (λ (k : ℕ). lengths_sent (joined (sent_by p parts) 0 k)) next ∙ ap lengths_sent (joined_next (sent_by p parts) 0 n (omega arith)) ∙ map-append length_sent (joined (sent_by p parts) 0 n) (sent_by p parts n)
     ∙ ap (λ (l : List PartLength). l ++ lengths_sent (sent_by p parts n)) (tiles_lengths p parts n (λ t lt. are t (omega (arith, lt)))) ∙ ap (λ (l : List PartLength). map entry_of (joined parts 0 n) ++ l) own
-    ∙ sym (map-append entry_of (joined parts 0 n) (parts n)) ∙ sym (ap (λ (ps : List TilePart). map entry_of ps) (joined_next parts 0 n (omega arith))))
+    ∙ sym (map-append entry_of (joined parts 0 n) (parts n)) ∙ sym (ap (λ (ps : List TilePart). map entry_of ps) (joined_next parts 0 n (omega arith)))
+    ∙ sym (ap (λ (k : ℕ). map entry_of (joined parts 0 k)) next)
 
 pub front_lengths : (p : Plan) (n : ℕ) (sent : List PartSent) (front : IsShortFront p n sent) → lengths_sent sent ≡ map entry_of (joined front.parts 0 n)
 front_lengths p n sent front = ap lengths_sent front.sent_are ∙ tiles_lengths p front.parts n front.are
@@ -86,41 +85,31 @@ sums_same f g zero same = refl
 sums_same f g (suc n) same = omega (arith, sums_same f g n (λ t lt. same t (omega (arith, lt))), same n (omega arith))
 
 module _ (p : Plan) (n : ℕ) (sent : List PartSent) (front : IsShortFront p n sent) where
-  -- the packets of a tile below n
-  names_at : (t : ℕ) → (t < n) ⊎ (n ≤ t) → List PacketName
-  names_at t (inl lt) = (front.are t lt).names
-  names_at t (inr past) = []
-
-  names_listed : (t : ℕ) (c : (t < n) ⊎ (n ≤ t)) → t < n → IsListOf (headers_of p) t (names_at t c)
-  names_listed t (inl lt) inside = (front.are t lt).order
-  names_listed t (inr past) inside = absurd (omega (arith, past, inside))
-
-  parts_counted : (t : ℕ) (c : (t < n) ⊎ (n ≤ t)) → t < n → length (front.parts t) ≡ length (groups_of p.wanted.marks.parts (names_at t c))
-  parts_counted t (inl lt) inside =
+  part_count : (t : ℕ) → t < n → IsPartCount p.wanted.marks.parts (headers_of p) t (length (front.parts t))
+  part_count t lt =
       let groups : List (List PacketName) = groups_of p.wanted.marks.parts (front.are t lt).names in
-      ap (λ (ps : List TilePart). length ps) (front.are t lt).are
-      ∙ made_long p.wanted.marks (length (headers_of p).siz.comps) t (header_of (headers_of p) t) (packets_of p.wanted.marks (headers_of p) t (blocks_of p)) (length groups) 0 0 groups
-  parts_counted t (inr past) inside = absurd (omega (arith, past, inside))
+      record {
+        names = (front.are t lt).names;
+        order = (front.are t lt).order;
+        count_is = ap (λ (ps : List TilePart). length ps) (front.are t lt).are
+            ∙ made_long p.wanted.marks (length (headers_of p).siz.comps) t (header_of (headers_of p) t) (packets_of p.wanted.marks (headers_of p) t (blocks_of p)) (length groups) 0 0 groups;
+      }
 
-  names_of : ℕ → List PacketName
-  names_of t = names_at t (cases_lt t n)
-
-  front_counted : length sent ≡ parts_total p.wanted.marks.parts n names_of
+  front_counted : length sent ≡ sum_below (λ t. length (front.parts t)) n
   front_counted =
       let f : ℕ → List PartSent = sent_by p front.parts in
       ap (λ (s : List PartSent). length s) front.sent_are ∙ joined_length f (λ t. length (f t)) n (λ t. refl)
-      ∙ sums_same (λ t. length (f t)) (λ t. length (groups_of p.wanted.marks.parts (names_of t))) n (λ t lt.
-          length-map (map (part_bytes (length p.stream.siz.comps)) (front.parts t)) (sent_as t) ∙ length-map (front.parts t) (part_bytes (length p.stream.siz.comps)) ∙ parts_counted t (cases_lt t n) lt)
+      ∙ sums_same (λ t. length (f t)) (λ t. length (front.parts t)) n (λ t lt.
+          length-map (map (part_bytes (length p.stream.siz.comps)) (front.parts t)) (sent_as t) ∙ length-map (front.parts t) (part_bytes (length p.stream.siz.comps)))
 
 pub measured_few : (p : Plan) (lengths : List PartLength) → HasFewEntries p.wanted.marks (headers_of p) → p.wanted.marks.tlm ≡ true → AreMeasured p lengths → length lengths ≤ 2795776
 measured_few p lengths few asked is =
     let n : ℕ = tile_number p.stream.siz in
     let same : tile_number (headers_of p).siz ≡ n = tiles_stay p.wanted p.layers p.stream in
-    let at_most : parts_total p.wanted.marks.parts (tile_number (headers_of p).siz) (names_of p n is.sent is.front) ≤ 2795776 =
-    few asked (names_of p n is.sent is.front) (λ t lt. names_listed p n is.sent is.front t (cases_lt t n) (omega (arith, lt, same))) in
-    let below : parts_total p.wanted.marks.parts n (names_of p n is.sent is.front) ≤ 2795776 =
-    subst (λ (tiles : ℕ). parts_total p.wanted.marks.parts tiles (names_of p n is.sent is.front) ≤ 2795776) same at_most in
-    omega (arith, below, front_counted p n is.sent is.front, ap (λ (l : List PartLength). length l) is.lengths_are, length-map is.sent length_sent)
+    let counts : ℕ → ℕ = λ t. length (is.front.parts t) in
+    let all : sum_below counts (tile_number (headers_of p).siz) ≤ 2795776 = few asked counts (λ t lt. part_count p n is.sent is.front t (omega (arith, lt, same))) in
+    let here : sum_below counts (tile_number (headers_of p).siz) ≡ sum_below counts n = ap (λ (k : ℕ). sum_below counts k) same in
+    omega (arith, all, here, front_counted p n is.sent is.front, ap (λ (l : List PartLength). length l) is.lengths_are, length-map is.sent length_sent)
 
 pub head_indexed : (p : Plan) (lengths : List PartLength) (header index head : List ℕ) → p.wanted.marks.tlm ≡ true → AreMeasured p lengths → header ≡ main_bytes (headers_of p)
     → ((comps : ℕ) → index ≡ all_bytes comps (index_segments lengths)) → head ≡ header ++ index → IsHead p head

@@ -6,10 +6,6 @@ pub nothing_written : (w : Option (List ℕ)) → w ≡ followed_by [] w
 nothing_written None = refl
 nothing_written (Some bytes) = ap (λ (b : List ℕ). Some b) (sym (append-nil bytes))
 
--- where bytes are let go, none are told
-pub let_go : (w : Option (List ℕ)) (bytes : List ℕ) → w ≡ None → w ≡ followed_by bytes w
-let_go w bytes none = rw none refl
-
 written_twice : (a b : List ℕ) (w : Option (List ℕ)) → followed_by b (followed_by a w) ≡ followed_by (a ++ b) w
 written_twice a b None = refl
 written_twice a b (Some bytes) = ap (λ (all : List ℕ). Some all) (append_assoc bytes a b)

@@ -1,6 +1,6 @@
 //! What stands before the first tile-part.
 
-ghost use Rattle.std.specs.Prelude.{◌≡◌, true, IfOk};
+ghost use Rattle.std.specs.Prelude.{◌≡◌, ◌++◌, true, IfOk};
 ghost use Rattle.jx_plan.specs.Plan.{IsPlan, headers_of};
 ghost use Rattle.jx_tier2_writer.specs.Tile.{main_bytes};
 ghost use Rattle.jx_rounds.specs.Heads.{AreMeasured, IsHead};
@@ -9,6 +9,15 @@ use crate::making::Making;
 use jx_base::NoMemory;
 use jx_tier2_writer::{PartLength, index_bytes};
 use std::alloc::Global;
+
+/// Bytes with others behind them.
+fn with_behind(bytes: Vec<u8>, behind: &[u8]) -> Result<Vec<u8>, NoMemory>
+    ensures { IfOk result (λ all. all.items ≡ bytes.items ++ behind.now) }
+{
+    let mut all = bytes;
+    all.extend_from_slice(behind)?;
+    Ok(all)
+}
 
 /// The main header of a plan with the index of all tile-parts behind it, of which these are the lengths.
 pub fn indexed_head(
@@ -24,7 +33,5 @@ pub fn indexed_head(
     ensures { IfOk result (λ head. IsHead making.now head.items) }
 {
     let index = index_bytes(alloc, lengths)?;
-    let mut head = header;
-    head.extend_from_slice(&index)?;
-    Ok(head)
+    with_behind(header, &index)
 }

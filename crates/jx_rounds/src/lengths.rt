@@ -50,7 +50,7 @@ impl Lengths {
 
     /// Those that were put down.
     pub fn into_parts(self) -> Vec<PartLength>
-        ensures { IfSome self.entry (λ parts. result.items ≡ parts) }
+        ensures { IfSome self (λ parts. result.items ≡ parts) }
     {
         self.parts
     }

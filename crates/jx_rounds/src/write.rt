@@ -227,6 +227,49 @@ fn write_end<W: ByteWriter>(writer: &mut W, before: usize) -> Result<usize, Halt
     }
 }
 
+/// Writes a head, all rounds and EOC.
+fn write_from_head<R: Threads + Wait + Sync, G: Gate + Sync, W: ByteWriter>(
+    crew: &Crew<'_, R, G>,
+    alloc: Global,
+    writer: &mut W,
+    making: &Making<'_, '_>,
+    head: &[u8],
+    lengths: &mut Lengths,
+    tape: &mut Vec<TapeEntry>,
+    buffer: &mut Vec<u8>,
+) -> Result<usize, Halt>
+    requires may { W.can_write (W.kept writer.old) }
+    requires work { MayBeWork crew.now.work }
+    requires empty { tape.old.items ≡ [] }
+    requires buffer { buffer.old.items ≡ [] }
+    ensures ok { IfOk result (λ bytes. HasWhole making.now head.now bytes (W.written writer.old) (W.written writer.new)) }
+    ensures err { IfErr result (λ h. IsHalted making.now head.now h (W.written writer.old) (W.written writer.new)) }
+    ensures tape { IsTapeOf crew.now.work making.now.blocks tape.new.items }
+    ensures whole { OnOk result (length tape.new.items ≡ length making.now.blocks) }
+    ensures taped { IfErr result (λ h. IsTapedTo making.now h (length tape.new.items)) }
+    ensures cause { IsErrOf result Halt.Failed → Rose (W.faults writer.old) (W.faults writer.new) }
+    ensures rose { W.faults writer.old < W.faults writer.new → IsErrOf result Halt.Failed }
+    ensures same { OnOk result (W.faults writer.new ≡ W.faults writer.old) }
+    ensures other { W.kept writer.new ≡ W.kept writer.old }
+{
+    match put(writer, head) {
+        Ok(()) => match write_tiles(
+            crew,
+            alloc,
+            writer,
+            making,
+            head.len(),
+            lengths,
+            tape,
+            buffer,
+        ) {
+            Ok(before) => write_end(writer, before),
+            Err(halt) => Err(halt),
+        },
+        Err(halt) => Err(halt),
+    }
+}
+
 /// Writes the codestream of a plan, with `head` before its first tile-part: how many bytes it has. `tape` gets the entries of each round's
 /// code-blocks once the round is written.
 ///
@@ -257,22 +300,16 @@ pub fn write_codestream<R: Threads + Wait + Sync, G: Gate + Sync, W: ByteWriter>
     ensures other { W.kept writer.new ≡ W.kept writer.old }
 {
     let mut lengths = Lengths::unasked(alloc);
-    match put(writer, head) {
-        Ok(()) => match write_tiles(
-            crew,
-            alloc,
-            writer,
-            making,
-            head.len(),
-            &mut lengths,
-            tape,
-            buffer,
-        ) {
-            Ok(before) => write_end(writer, before),
-            Err(halt) => Err(halt),
-        },
-        Err(halt) => Err(halt),
-    }
+    write_from_head(
+        crew,
+        alloc,
+        writer,
+        making,
+        head,
+        &mut lengths,
+        tape,
+        buffer,
+    )
 }
 
 /// Writes what stands behind a head of so many bytes, and EOC.

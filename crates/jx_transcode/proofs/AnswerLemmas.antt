@@ -1,5 +1,5 @@
 -- What becomes of an input, from what became of its plan.
-use Rattle.std.proofs.Common.{◌≡◌, ◌∙◌, ◌⊎◌, ◌<◌, ◌≤◌, ◌^◌, ℕ, false, List, [], ◌++◌, length, map, Option, None, Some, Result, Ok, Err, IfOk, IfErr, OnOk, refl, ap, sym, subst, arith, inl, inr, append_assoc, append-nil}
+use Rattle.std.proofs.Common.{◌≡◌, ◌∙◌, ◌⊎◌, ◌<◌, ◌≤◌, ◌^◌, ℕ, Bool, true, false, List, [], ◌++◌, length, map, Option, None, Some, Result, Ok, Err, IfOk, IfErr, OnOk, refl, ap, sym, subst, arith, inl, inr, append_assoc, append-nil, if◌then◌else◌}
 use Rattle.std.specs.List.{All, flat_map}
 use Rattle.std.proofs.lemmas.Bool.{cases_lt}
 use Rattle.std.proofs.lemmas.Grind.{flat_map-append}
@@ -164,17 +164,21 @@ module _ (laws : Laws) (aim : Aim) (input : List ℕ) (s : Stream) (blocks : Lis
   long_of t right is = record { right = right; parts = is.parts; are = are_of t is.parts is.are; long = λ short. is.long (at_most_short is.parts short) }
 
   -- the index that a head ends with is that of the file's tile-parts
-  index_here : List TilePart → List ℕ
+  abbrev index_here : List TilePart → List ℕ
   index_here parts = all_bytes (length s.siz.comps) (index_of w.marks parts)
 
+  -- by whether it is asked
+  abbrev index_where : List TilePart → Bool → List ℕ
+  index_where parts asked = main_bytes headers ++ all_bytes (length s.siz.comps) (if asked then index_segments (map entry_of parts) else [])
+
   head_of : (head out : List ℕ) (whole : IsWholeFile plan head out) → IsHead plan head → head ≡ main_bytes headers ++ index_here (joined whole.tiles.parts 0 tiles)
-  head_of head out whole (inl plain) = rw plain.0 (plain.1 ∙ sym (append-nil (main_bytes headers)))
+  head_of head out whole (inl plain) = plain.1 ∙ sym (append-nil (main_bytes headers)) ∙ ap (index_where (joined whole.tiles.parts 0 tiles)) (sym plain.0)
   head_of head out whole (inr (asked, index)) =
       let same : joined index.are.front.parts 0 tiles ≡ joined whole.tiles.parts 0 tiles =
       joined_same index.are.front.parts whole.tiles.parts tiles (λ t lt. same_parts tiles tiles index.are.sent whole.sent index.are.front whole.tiles t lt lt) in
       let lengths : index.lengths ≡ map entry_of (joined whole.tiles.parts 0 tiles) =
       index.are.lengths_are ∙ front_lengths plan tiles index.are.sent index.are.front ∙ ap (λ (ps : List TilePart). map entry_of ps) same in
-      rw asked (index.head_is ∙ ap (λ (l : List PartLength). main_bytes headers ++ all_bytes (length s.siz.comps) (index_segments l)) lengths)
+      index.head_is ∙ ap (λ (l : List PartLength). main_bytes headers ++ all_bytes (length s.siz.comps) (index_segments l)) lengths ∙ ap (index_where (joined whole.tiles.parts 0 tiles)) (sym asked)
 
   abbrev output_of : (head out : List ℕ) (whole : IsWholeFile plan head out) → IsHead plan head → IsOutput w.marks headers written_blocks out
   output_of head out whole is =
@@ -327,9 +331,10 @@ module _ (laws : Laws) (aim : Aim) (input : List ℕ) (s : Stream) (blocks : Lis
   }
 
   -- what is left where a tile isn't written: the rounds before its own, or nothing where the index is asked
-  pub record IsLeftAt (name : Text) (why : Halt) (t : ℕ) (old new : Meaning) : Type 0 where
-    pub of : IsSpoiledTile plan why t
-    pub stands : ((bytes : List ℕ) × IsFront w can.by s blocks (round_of (blocks_in plan) t).start bytes × IsFrontOf aim input bytes × IsStopped name bytes old new) ⊎ IsUnbegun aim old new
+  abbrev IsLeftAt : Text → Halt → ℕ → Meaning → Meaning → Type 0
+  IsLeftAt name why t old new =
+      IsSpoiledTile plan why t
+      × (((bytes : List ℕ) × IsFront w can.by s blocks (round_of (blocks_in plan) t).start bytes × IsFrontOf aim input bytes × IsStopped name bytes old new) ⊎ IsUnbegun aim old new)
 
   -- all tiles are right and short where the index was made
   indexed_whole : (why : Halt) (t : ℕ) (head : List ℕ) → IsIndexed plan head → (is : IsSpoiledTile plan why t) → IsSpoiled w can.by s blocks t → ⊥
@@ -337,18 +342,18 @@ module _ (laws : Laws) (aim : Aim) (input : List ℕ) (s : Stream) (blocks : Lis
 
   left_at : (name : Text) (why : Halt) (t : ℕ) (old new : Meaning) → (IsSpoiledBy plan t why → IsSpoiled w can.by s blocks t) → IsFileSpoiled plan name why t old new → IsLeftAt name why t old new
   left_at name why t old new spoiled (inl file) = elim file.head_is [
-    | inl plain ↦ record {
-      of = file.is.of;
-      stands = inl (
+    | inl plain ↦ (
+      file.is.of,
+      inl (
         file.bytes,
         start_front file.head why t file.bytes file.is plain.0 plain.1,
         cut_front file.head why t file.bytes file.is plain.0 plain.1,
         file.stopped,
-      );
-    }
+      ),
+    )
     | inr indexed ↦ absurd (indexed_whole why t file.head indexed.1 file.is.of (spoiled file.is.of.spoiled))
   ]
-  left_at name why t old new spoiled (inr file) = record { of = file.of; stands = inr (file.asked, file.same) }
+  left_at name why t old new spoiled (inr file) = (file.of, inr (file.asked, file.same))
 
   stopped_begun : (name : Text) (bytes : List ℕ) (old new : Meaning) → IsStopped name bytes old new → IsUnfinished name bytes old new
   stopped_begun name bytes old new stopped =
@@ -358,7 +363,7 @@ module _ (laws : Laws) (aim : Aim) (input : List ℕ) (s : Stream) (blocks : Lis
   left_short name n why t old new is left = inr (inr (inr (record {
     within = within;
     count = counted n is;
-    stands = elim left.stands [
+    stands = elim left.1 [
       | inl cut ↦ inr (inl (cut.0, inl cut.2, stopped_begun name cut.0 old new cut.3))
       | inr none ↦ inl none.1
     ];
@@ -390,11 +395,11 @@ module _ (laws : Laws) (aim : Aim) (input : List ℕ) (s : Stream) (blocks : Lis
     halted : (h : Halt) → IsFileHalted plan name h old new → IsTapedTo plan h (length tape) → IsAnswered name work aim input (status_of h) n bytes tape old new
     halted (halt.Bad t number) file to =
         let left : IsLeftAt name (halt.Bad t number) t old new = left_at name (halt.Bad t number) t old new (bad_spoiled t number) file in
-        let wrong : IsWrongAt w s blocks t number = left.of.spoiled.1 in
+        let wrong : IsWrongAt w s blocks t number = left.0.spoiled.1 in
         record {
-          verdict = λ v. (within, bad_of t number left.of);
+          verdict = λ v. (within, bad_of t number left.0);
           leaves = record {
-            stands = elim left.stands [
+            stands = elim left.1 [
               | inl cut ↦
                   inl (cut.0, record { stream = s; blocks = blocks; reads = reads; can = can; tile = t; from = wrong.from; below = wrong.below; front = cut.1 }, cut.3)
               | inr none ↦ inr none
@@ -404,14 +409,14 @@ module _ (laws : Laws) (aim : Aim) (input : List ℕ) (s : Stream) (blocks : Lis
           unsaid = left_short name n (halt.Bad t number) t old new count left;
           tape = taped;
           whole = λ done. absurd (halted_undone (halt.Bad t number) done);
-          taped = record { stream = s; blocks = blocks; reads = reads; tile = t; inside = left.of.inside; from = wrong.from; below = wrong.below; count_is = to };
+          taped = record { stream = s; blocks = blocks; reads = reads; tile = t; inside = left.0.inside; from = wrong.from; below = wrong.below; count_is = to };
         }
     halted (halt.TooLong t) file to =
         let left : IsLeftAt name (halt.TooLong t) t old new = left_at name (halt.TooLong t) t old new (long_spoiled t) file in
         record {
-          verdict = λ v. (within, inl (refl, too_long_of t left.of));
+          verdict = λ v. (within, inl (refl, too_long_of t left.0));
           leaves = inl (refl, record {
-            stands = elim left.stands [
+            stands = elim left.1 [
               | inl cut ↦ inl (cut.0, record { stream = s; blocks = blocks; reads = reads; can = can; front = cut.1 }, cut.3)
               | inr none ↦ inr none
             ];
@@ -420,7 +425,7 @@ module _ (laws : Laws) (aim : Aim) (input : List ℕ) (s : Stream) (blocks : Lis
           unsaid = left_short name n (halt.TooLong t) t old new count left;
           tape = taped;
           whole = λ done. absurd (halted_undone (halt.TooLong t) done);
-          taped = inl (refl, record { stream = s; blocks = blocks; reads = reads; inside = left.of.inside; count_is = to });
+          taped = inl (refl, record { stream = s; blocks = blocks; reads = reads; inside = left.0.inside; count_is = to });
         }
     halted halt.Failed file to = begun status.WriteFault (λ v. v) (begun_short name n old new count file) (cut to) file
     halted halt.NoMemory file to = begun status.NoMemory (λ v. v) (begun_short name n old new count file) (cut to) file

@@ -10,7 +10,7 @@ pub returns-in-Ok-clause-ok : goal.returns-in-Ok-clause-ok
 returns-in-Ok-clause-ok g c = IfOk-weaker c.write_behind.result _ _ (λ bytes whole. λ p held. whole p (g.W.ByteWriter.written c.args.writer.now) c.args.head.now refl held c.in-Ok.ensures.ok) c.write_behind.ensures.ok
 
 pub returns-in-Ok-clause-err : goal.returns-in-Ok-clause-err
-returns-in-Ok-clause-err g c = on_err_weaker c.write_behind.result _ _ (λ cut. λ p held. cut p (g.W.ByteWriter.written c.args.writer.now) c.args.head.now refl held c.in-Ok.ensures.ok) c.write_behind.ensures.err
+returns-in-Ok-clause-err g c = on_err_weaker c.write_behind.result (λ cut. λ p held. cut p (g.W.ByteWriter.written c.args.writer.now) c.args.head.now refl held c.in-Ok.ensures.ok) c.write_behind.ensures.err
 
 pub returns-in-Ok-clause-cause : goal.returns-in-Ok-clause-cause
 returns-in-Ok-clause-cause g c = rw (← c.in-Ok.ensures.same) c.write_behind.ensures.cause

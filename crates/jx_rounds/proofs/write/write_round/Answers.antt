@@ -75,6 +75,3 @@ returns-in-Err-clause-round g c = unmade_round c.args.making.now c.args.mark.til
 
 pub returns-clause-round : goal.returns-clause-round
 returns-clause-round g c = fault_round c.args.making.now c.args.mark.tile c.in-Err-put_round.halt c.in-Err-put_round.ensures.fault
-
-pub mark_after-requires : goal.mark_after-requires
-mark_after-requires g c = omega (arith, c.in-Ok-packed_tiles.ensures.count, ap (λ l. length l) c.deref-2.ensures.value)

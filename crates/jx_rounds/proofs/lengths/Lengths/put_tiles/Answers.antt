@@ -10,7 +10,7 @@ loop-packed-preserved c =
     let there : c.loop-packed.packed-index < length c.args.tiles.now = search rules in
     record {
       at = omega (arith, c.loop-packed.invariant.at);
-      put = tiles_behind c.loop-packed.tile c.args.tiles.now c.loop-packed.packed-index c.packed-item.result c.loop-packed.self _ there c.packed-item.is c.in_ok.ensures ∙ c.loop-packed.invariant.put;
+      put = tiles_behind c.loop-packed.tile c.args.tiles.now c.loop-packed.packed-index c.packed-item.result c.loop-packed.self _ there c.packed-item.is c.in_ok-put_tile.ensures ∙ c.loop-packed.invariant.put;
     }
 
 pub returns : goal.returns

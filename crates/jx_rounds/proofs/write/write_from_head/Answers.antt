@@ -2,7 +2,7 @@ use Rattle.std.proofs.Common.{◌∙◌, inr, refl}
 use Rattle.std.proofs.lemmas.Result.{IfErr-weaker, IfOk-weaker, on_ok_weaker}
 use Rattle.jx_rounds.proofs.TapedLemmas.{fault_taped, tape_none}
 use Rattle.jx_rounds.proofs.WriteLemmas.{first_ends, first_place, front_after, halted_after, head_cut, same_err}
-use Rattle.jx_rounds.proofs.write.write_codestream.Goals as goal
+use Rattle.jx_rounds.proofs.write.write_from_head.Goals as goal
 
 pub write_tiles-requires-clause-may : goal.write_tiles-requires-clause-may
 write_tiles-requires-clause-may g c = λ lifetimes within. rw c.put.ensures.other c.requires.may
