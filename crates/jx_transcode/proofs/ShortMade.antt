@@ -34,8 +34,8 @@ use Rattle.jx_progression.specs.declared.names.PacketName.{PacketName}
 use Rattle.jx_progression.specs.Packets.{IsOrder}
 use Rattle.jx_progression.specs.Steps.{name_of}
 use Rattle.jx_codestream.specs.declared.Stream.{Stream}
-use Rattle.jx_codestream.specs.Params.{header_of, headers_at, planes_in}
-use Rattle.jx_codestream.specs.Shapes.{geometry, layers_of, planes_at, shapes_in, style_of}
+use Rattle.jx_codestream.specs.Params.{header_of, planes_at}
+use Rattle.jx_codestream.specs.Shapes.{geometry, layers_of, shapes_in, style_of}
 use Rattle.jx_codestream.specs.Spells.{TilePart, all_bytes}
 use Rattle.jx_tile.specs.Cells.{precinct_bands, sizes_of}
 use Rattle.jx_tile.specs.Covered.{IsListOf}
@@ -158,9 +158,9 @@ parts_short : (comps t : ℕ) (own : List Segment) (ps : Packets) (part parts nu
 parts_short comps t own ps part parts number [] e small = tt
 parts_short comps t own ps part parts number (names ∷ groups) e small =
     let header = header_few_bytes comps part own (map (packet_length ps) names) e (omega (arith, mapped_long ps names, small.0)) in
-    let body = packets_few ps number names small.1.0 in
+    let body = packets_few ps number names small.1 in
     let few = small.0 in
-    (omega arith, parts_short comps t own ps (part + 1) parts (number + length names) groups e small.1.1)
+    (omega arith, parts_short comps t own ps (part + 1) parts (number + length names) groups e small.2)
 
 -- ---- a code-block as it is written
 pieces_few : (style layer first passes : ℕ) (ps : List PieceValue) → ArePieces style layer first passes ps → length ps + first ≤ passes
@@ -254,10 +254,13 @@ own_tile : (w h size : ℕ) → (geometry (own w h size) 0).tile ≡ 0
 unfolding shapes_in stream_written stream_made
 own_tile w h size = refl
 
+abbrev sized : Bool → Rect → ℕ → BandCells
+sized t cells n = if t then record { wide = 0; high = 0; planes = n } else record { wide = length_of cells.x; high = length_of cells.y; planes = n }
+
 size_planes : (cells : Rect) (n : ℕ) → (sizes_of cells n).planes ≡ n
 size_planes cells n = by (size_of cells == 0)
   where
-    by : (t : Bool) → (if t then record { wide = 0; high = 0; planes = n } else record { wide = length_of cells.x; high = length_of cells.y; planes = n }).planes ≡ n
+    by : (t : Bool) → (sized t cells n).planes ≡ n
     by true = refl
     by false = refl
 
@@ -311,7 +314,9 @@ made_short laws w h size rule blocks names sizes plain sound order =
     let same : names ≡ layer_names 0 = laws.order w h size names sizes order in
     let is : groups_of part.Resolution names ≡ three 0 ∷ three 1 ∷ three 2 ∷ three 3 ∷ three 4 ∷ three 5 ∷ [] = ap (λ (ns : List PacketName). groups_of part.Resolution ns) same ∙ cut in
     let all : (r : ℕ) → r < 6 → AreLight (packets_of marks s 0 written) (three r) =
-    λ r below. (light laws w h size 0 r written sizes fine (omega arith) below, light laws w h size 1 r written sizes fine (omega arith) below, light laws w h size 2 r written sizes fine (omega arith) below, tt) in
+    λ r below.
+    (light laws w h size 0 r written sizes fine (omega arith) below, (light laws w h size 1 r written sizes fine (omega arith) below, (light laws w h size 2 r written sizes fine (omega arith) below, tt))) in
     subst (λ (gs : List (List PacketName)). AreShort (tile_parts marks s written 0 gs)) (sym is)
     (parts_short (length s.siz.comps) 0 (header_of s 0) (packets_of marks s 0 written) 0 6 0 (three 0 ∷ three 1 ∷ three 2 ∷ three 3 ∷ three 4 ∷ three 5 ∷ []) (own_header w h size)
-    (omega arith, all 0 (omega arith), omega arith, all 1 (omega arith), omega arith, all 2 (omega arith), omega arith, all 3 (omega arith), omega arith, all 4 (omega arith), omega arith, all 5 (omega arith), tt))
+    (omega arith, all 0 (omega arith),
+    (omega arith, all 1 (omega arith), (omega arith, all 2 (omega arith), (omega arith, all 3 (omega arith), (omega arith, all 4 (omega arith), (omega arith, all 5 (omega arith), tt)))))))
