@@ -100,7 +100,7 @@ module _ (p : Plan) (n : ℕ) (sent : List PartSent) (front : IsShortFront p n s
       let f : ℕ → List PartSent = sent_by p front.parts in
       ap (λ (s : List PartSent). length s) front.sent_are ∙ joined_length f (λ t. length (f t)) n (λ t. refl)
       ∙ sums_same (λ t. length (f t)) (λ t. length (front.parts t)) n (λ t lt.
-          length-map (map (part_bytes (length p.stream.siz.comps)) (front.parts t)) (sent_as t) ∙ length-map (front.parts t) (part_bytes (length p.stream.siz.comps)))
+      length-map (map (part_bytes (length p.stream.siz.comps)) (front.parts t)) (sent_as t) ∙ length-map (front.parts t) (part_bytes (length p.stream.siz.comps)))
 
 pub measured_few : (p : Plan) (lengths : List PartLength) → HasFewEntries p.wanted.marks (headers_of p) → p.wanted.marks.tlm ≡ true → AreMeasured p lengths → length lengths ≤ 2795776
 measured_few p lengths few asked is =
@@ -113,8 +113,11 @@ measured_few p lengths few asked is =
 
 pub head_indexed : (p : Plan) (lengths : List PartLength) (header index head : List ℕ) → p.wanted.marks.tlm ≡ true → AreMeasured p lengths → header ≡ main_bytes (headers_of p)
     → ((comps : ℕ) → index ≡ all_bytes comps (index_segments lengths)) → head ≡ header ++ index → IsHead p head
-head_indexed p lengths header index head asked are main is all = inr (asked, record {
-  lengths = lengths;
-  are = are;
-  head_is = all ∙ ap (λ (b : List ℕ). b ++ index) main ∙ ap (λ (b : List ℕ). main_bytes (headers_of p) ++ b) (is (length p.stream.siz.comps));
-})
+head_indexed p lengths header index head asked are main is all = inr (
+  asked,
+  record {
+    lengths = lengths;
+    are = are;
+    head_is = all ∙ ap (λ (b : List ℕ). b ++ index) main ∙ ap (λ (b : List ℕ). main_bytes (headers_of p) ++ b) (is (length p.stream.siz.comps));
+  },
+)

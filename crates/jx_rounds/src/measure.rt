@@ -54,7 +54,14 @@ pub fn measured_parts<R: Threads + Wait + Sync, G: Gate + Sync>(
     let mut blind = BlindWriter;
     let mut lengths = Lengths::asked(alloc);
     match write_tiles(
-        crew, alloc, &mut blind, making, 0, &mut lengths, tape, buffer,
+        crew,
+        alloc,
+        &mut blind,
+        making,
+        0,
+        &mut lengths,
+        tape,
+        buffer,
     ) {
         Ok(_) => Ok(lengths.into_parts()),
         Err(halt) => Err(halt),
@@ -86,7 +93,14 @@ pub fn held_parts<R: Threads + Wait + Sync, G: Gate + Sync>(
     let mut parts = MemoryWriter::new(alloc);
     let mut lengths = Lengths::asked(alloc);
     match write_tiles(
-        crew, alloc, &mut parts, making, 0, &mut lengths, tape, buffer,
+        crew,
+        alloc,
+        &mut parts,
+        making,
+        0,
+        &mut lengths,
+        tape,
+        buffer,
     ) {
         Ok(_) => Ok(Held {
             lengths: lengths.into_parts(),

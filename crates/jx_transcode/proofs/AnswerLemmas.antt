@@ -250,16 +250,15 @@ module _ (laws : Laws) (aim : Aim) (input : List ℕ) (s : Stream) (blocks : Lis
       let one : ℕ → List PartSent = sent_by plan front.front.parts in
       let two : ℕ → List PartSent = sent_by plan index.are.front.parts in
       let same : joined one 0 front.tiles ≡ joined two 0 front.tiles = joined_same one two front.tiles (λ t lt.
-          ap (λ (ps : List TilePart). sent_of t (map (part_bytes (length s.siz.comps)) ps)) (same_parts front.tiles tiles front.sent all front.front index.are.front t lt (omega (arith, lt, front.inside)))) in
+      ap (λ (ps : List TilePart). sent_of t (map (part_bytes (length s.siz.comps)) ps)) (same_parts front.tiles tiles front.sent all front.front index.are.front t lt (omega (arith, lt, front.inside)))) in
       let cut = joined_front two front.tiles tiles front.inside in
       let whole : all ≡ front.sent ++ cut.0 = index.are.front.sent_are ∙ cut.1 ∙ ap (λ (x : List PartSent). x ++ cut.0) (sym same ∙ sym front.front.sent_are) in
-      let rest : List ℕ = bytes_sent cut.0 ++ spelling 1 segment.Eoc in
-      (
+      let rest : List ℕ = bytes_sent cut.0 ++ spelling 1 segment.Eoc in (
         (head ++ bytes_sent all) ++ spelling 1 segment.Eoc,
         record { sent = all; tiles = index.are.front; bytes_are = refl },
         rest,
         ap (λ (x : List PartSent). (head ++ bytes_sent x) ++ spelling 1 segment.Eoc) whole ∙ ap (λ (b : List ℕ). (head ++ b) ++ spelling 1 segment.Eoc) (both_sent front.sent cut.0)
-        ∙ front_then head (bytes_sent front.sent) (bytes_sent cut.0) (spelling 1 segment.Eoc) ∙ ap (λ (b : List ℕ). b ++ rest) (sym front.bytes_are),
+            ∙ front_then head (bytes_sent front.sent) (bytes_sent cut.0) (spelling 1 segment.Eoc) ∙ ap (λ (b : List ℕ). b ++ rest) (sym front.bytes_are),
       )
 
   cut_stands : (name : Text) (old new : Meaning) → IsFileCut plan name old new → LeavesBegun name aim input old new
@@ -415,13 +414,16 @@ module _ (laws : Laws) (aim : Aim) (input : List ℕ) (s : Stream) (blocks : Lis
         let left : IsLeftAt name (halt.TooLong t) t old new = left_at name (halt.TooLong t) t old new (long_spoiled t) file in
         record {
           verdict = λ v. (within, inl (refl, too_long_of t left.0));
-          leaves = inl (refl, record {
-            stands = elim left.1 [
-              | inl cut ↦ inl (cut.0, record { stream = s; blocks = blocks; reads = reads; can = can; front = cut.1 }, cut.3)
-              | inr none ↦ inr none
-            ];
-            count = counted n count;
-          });
+          leaves = inl (
+            refl,
+            record {
+              stands = elim left.1 [
+                | inl cut ↦ inl (cut.0, record { stream = s; blocks = blocks; reads = reads; can = can; front = cut.1 }, cut.3)
+                | inr none ↦ inr none
+              ];
+              count = counted n count;
+            },
+          );
           unsaid = left_short name n (halt.TooLong t) t old new count left;
           tape = taped;
           whole = λ done. absurd (halted_undone (halt.TooLong t) done);

@@ -13,8 +13,8 @@ ghost use Rattle.jx_transcode.specs.Filed.{IsFileBegun, IsFileHalted, IsFileMade
 use jx_io::{Files, Gate};
 use jx_plan::OutStream;
 use jx_rounds::{
-    Crew, ENOUGH, Halt, Making, TapeEntry, halt_of, held_parts, indexed_head, is_anew, measured_parts,
-    write_codestream, write_held,
+    Crew, ENOUGH, Halt, Making, TapeEntry, halt_of, held_parts, indexed_head, is_anew,
+    measured_parts, write_codestream, write_held,
 };
 use jx_tier2_writer::{main_header, main_view};
 use std::alloc::Global;

@@ -29,7 +29,9 @@ ghost use Rattle.jx_transcode.specs.Outcome.{Verdict, most_bytes};
 
 use jx_codeblock::laws::{coded_anew_is_sound, new_bytes_with_bypass, nothing_of_wrong_symbols};
 use jx_codestream::laws::{one_first, one_stream, violated_or_spelled};
-use jx_generate::laws::{made_blocks_are_plain, made_geometry, made_in_one_layer, made_is_short, made_is_well_formed};
+use jx_generate::laws::{
+    made_blocks_are_plain, made_geometry, made_in_one_layer, made_is_short, made_is_well_formed,
+};
 use jx_jp2::laws::{one_codestream, one_tree, some_codestream, some_tree};
 use jx_layers::laws::{blocks_are_written, jobs_have_these_ends};
 use jx_plan::laws::{gathered_may_be_planned, groups_are_cut, kept_precincts_fit, one_answer};

@@ -14,13 +14,13 @@ pub returns-in-Ok-clause-ok : goal.returns-in-Ok-clause-ok
 returns-in-Ok-clause-ok g c =
     let counted : c.in-Some.before ≡ c.args.head + length c.args.held.now = search rules in
     IfOk-weaker c.write_end.result _ _ (λ bytes whole. λ p first before long held wrote. whole p before first
-        (held_front p before c.args.held.now c.in-Some.before first (g.W.ByteWriter.written c.args.writer.now) (g.W.ByteWriter.written c.put.new.writer) held wrote c.in-Ok.ensures.ok (omega (arith, counted, long)))) c.write_end.ensures.ok
+    (held_front p before c.args.held.now c.in-Some.before first (g.W.ByteWriter.written c.args.writer.now) (g.W.ByteWriter.written c.put.new.writer) held wrote c.in-Ok.ensures.ok (omega (arith, counted, long)))) c.write_end.ensures.ok
 
 pub returns-in-Ok-clause-err : goal.returns-in-Ok-clause-err
 returns-in-Ok-clause-err g c =
     let counted : c.in-Some.before ≡ c.args.head + length c.args.held.now = search rules in
     on_fault c.write_end.result _ _ c.write_end.ensures.err c.write_end.ensures.fault (λ h halted fault. λ p first before long held wrote. fault_halted p before h first _ fault (halted p before first
-        (held_front p before c.args.held.now c.in-Some.before first (g.W.ByteWriter.written c.args.writer.now) (g.W.ByteWriter.written c.put.new.writer) held wrote c.in-Ok.ensures.ok (omega (arith, counted, long)))))
+    (held_front p before c.args.held.now c.in-Some.before first (g.W.ByteWriter.written c.args.writer.now) (g.W.ByteWriter.written c.put.new.writer) held wrote c.in-Ok.ensures.ok (omega (arith, counted, long)))))
 
 pub returns-in-Ok-clause-cause : goal.returns-in-Ok-clause-cause
 returns-in-Ok-clause-cause g c = rw (← c.in-Ok.ensures.same) c.write_end.ensures.cause
