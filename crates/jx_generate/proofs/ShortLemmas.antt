@@ -41,7 +41,7 @@ use Rattle.jx_generate.proofs.PrecinctLemmas.{all_13, cells_13}
 use Rattle.jx_generate.proofs.WellLemmas.{body_few}
 
 -- ---- lists that are joined
-joined_few : {X : Type 0} (f : ℕ → List X) (most n : ℕ) → ((i : ℕ) → i < n → length (f i) ≤ most) → length (joined f 0 n) ≤ n * most
+pub joined_few : {X : Type 0} (f : ℕ → List X) (most n : ℕ) → ((i : ℕ) → i < n → length (f i) ≤ most) → length (joined f 0 n) ≤ n * most
 joined_few f most zero each = let e = ap length (joined_none f 0 0 (omega arith)) in omega arith
 joined_few f most (suc n) each =
     let before : length (joined f 0 n) ≤ n * most = joined_few f most n (λ i lt. each i (omega arith)) in

@@ -1,5 +1,5 @@
 -- Of a rule and a stream there is one answer at most: nothing is in the way of its plan, or one cause is.
-use Rattle.std.proofs.Common.{◌≡◌, ◌<◌, ◌≤◌, ◌∙◌, ap, sym, subst, refl, arith, ℕ, List, map, inl, inr, Option, None, Some}
+use Rattle.std.proofs.Common.{◌≡◌, ◌<◌, ◌≤◌, ◌∙◌, ap, sym, subst, refl, arith, ℕ, List, map, inl, inr, Option, None, Some, Result, Ok, Err, OnOk}
 use Rattle.std.proofs.lemmas.Bool.{cases_lt}
 use Rattle.std.proofs.lemmas.Option.{same_Some}
 use Rattle.jx_base.specs.declared.pieces.Block.{Block}
@@ -23,6 +23,7 @@ use Rattle.jx_layers.specs.Layers.{AreJobs}
 use Rattle.jx_plan.specs.Plan.{IsPlan, Plan, headers_of, headers_with, most_packets}
 use Rattle.jx_plan.specs.Planned.{CanBePlannedBy, HasLaterCause, HasPlanCause, IsCrowded, IsFreeBy, IsPlanned, IsPlannedBy, IsUnplannedBy, LacksPlan, blocks_written, layers_of_rule}
 use Rattle.jx_layers.specs.Rule.{Rule}
+use Rattle.jx_plan.specs.Steps.{IsTooLate, IsUnmet}
 use Rattle.jx_options.specs.Wanted.{Wanted}
 use Rattle.jx_plan.proofs.LayerLaws.{CrowdLaws, WrittenLaws}
 use Rattle.jx_plan.proofs.StreamLemmas.{tile_number_stays}
@@ -169,6 +170,27 @@ module _ (s : Stream) (w : Wanted) (layers : ℕ) where
 
   late_passes : (number place found : ℕ) → IsLate s w layers number place → PassesPackets s w layers found → ⊥
   late_passes number place found late passes = omega (arith, late_few number place late, passes.count, passes.many)
+
+-- ---- choices 10 and 11 of the headers that are written, which are there
+pub met_made : {X E : Type 0} (r : Result X E) (P Q : Type 0) → (P → Q) → OnOk r P → OnOk r Q
+met_made (Ok x) P Q then met = then met
+met_made (Err e) P Q then met = tt
+
+module _ (own : Marks) (w : Wanted) (layers : ℕ) (s other : Stream) (same : own ≡ w.marks) (is : other ≡ headers_with w layers s) where
+  pub claim_made : unclaimed own other ≡ None → unclaimed w.marks (headers_with w layers s) ≡ None
+  claim_made met = subst (λ (m : Marks). unclaimed m (headers_with w layers s) ≡ None) same (subst (λ (u : Stream). unclaimed own u ≡ None) is met)
+
+  pub entries_made : HasFewEntries own other → HasFewEntries w.marks (headers_with w layers s)
+  entries_made few = subst (λ (m : Marks). HasFewEntries m (headers_with w layers s)) same (subst (HasFewEntries own) is few)
+
+  pub unmet_late : Fits w.precincts s → packet_total (headers_with w layers s) ≤ most_packets → ((t : ℕ) → t < tile_number s.siz → HasFewParts w.marks.parts (headers_with w layers s) t)
+      → HasFewEntries w.marks (headers_with w layers s) → (e : PlanFault) → IsUnmet own other e → IsTooLate s w layers e
+  unmet_late fits few parts entries (fault.Choice number place) unmet =
+      let first : unclaimed w.marks (headers_with w layers s) ≡ Some place =
+      subst (λ (m : Marks). unclaimed m (headers_with w layers s) ≡ Some place) same (subst (λ (u : Stream). unclaimed own u ≡ Some place) is unmet.1) in
+      inr (inr (unmet.0, record { fits = fits; few = few; parts = parts; entries = entries; first = first }))
+  unmet_late fits few parts entries (fault.Limit number found) unmet = absurd unmet
+  unmet_late fits few parts entries fault.NoMemory unmet = absurd unmet
 
 -- ---- choice 4
 module _ (crowds : CrowdLaws) (r : Rule) (s : Stream) (blocks : List Block) where

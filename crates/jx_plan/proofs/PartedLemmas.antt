@@ -1,5 +1,5 @@
 -- Tiles that are cut into few tile-parts, or many; and how many tile-parts all have.
-use Rattle.std.proofs.Common.{◌≡◌, ◌≤◌, ◌<◌, ◌⊎◌, ◌+◌, ◌*◌, ◌∙◌, ap, sym, subst, refl, arith, Bool, false, true, ℕ, zero, suc, List, length, inl, inr, None}
+use Rattle.std.proofs.Common.{◌≡◌, ◌≤◌, ◌<◌, ◌⊎◌, ◌+◌, ◌∙◌, ap, sym, subst, refl, arith, Bool, false, true, ℕ, zero, suc, List, length, inl, inr, None}
 use Rattle.std.proofs.lemmas.Bool.{cases_lt}
 use Rattle.jx_base.specs.Joined.{sum_below}
 use Rattle.jx_base.proofs.Sums.{sum_below_next}
@@ -53,7 +53,17 @@ ones s counts (suc n) each =
 pub undivided : (s : Stream) → AreAllParts part.None s (tile_number s.siz)
 undivided s = record { few = λ t lt. few_undivided s t; total = λ counts each. ones s counts (tile_number s.siz) each }
 
+pub undivided_by : (s : Stream) (n : ℕ) → n ≡ tile_number s.siz → AreAllParts part.None s n
+undivided_by s n is = subst (AreAllParts part.None s) (sym is) (undivided s)
+
 -- ---- one tile more
+pub few_next : (parts : PartChoice) (s : Stream) (n count : ℕ) → ((t : ℕ) → t < n → HasFewParts parts s t) → IsPartCount parts s n count → count ≤ most_parts
+    → (t : ℕ) → t < n + 1 → HasFewParts parts s t
+few_next parts s n count before own few t lt = elim (cases_lt t n) [
+  | inl less ↦ before t less
+  | inr ge ↦ let same : n ≡ t = omega arith in subst (HasFewParts parts s) same (few_by parts s n count own few)
+]
+
 abbrev pub IsTotalBelow : PartChoice → Stream → ℕ → ℕ → Type 0
 IsTotalBelow parts s n all = (counts : ℕ → ℕ) → ((t : ℕ) → t < n → IsPartCount parts s t (counts t)) → sum_below counts n ≡ all
 
@@ -106,9 +116,6 @@ entries_or m s range none = by m.tlm refl
     ]
 
 -- by the number that was counted
-pub few_counted : (m : Marks) (s : Stream) (all : ℕ) → AreAllParts m.parts s all → (m.tlm ≡ true → all ≤ most_entries) → HasFewEntries m s
-few_counted m s all are few = λ asked counts each. omega (arith, few asked, are.total counts each)
-
 pub many_counted : (m : Marks) (s : Stream) (all : ℕ) → StreamInRange s → totals_fault s ≡ None → AreAllParts m.parts s all → m.tlm ≡ true → most_entries < all → HasManyEntries m s
 many_counted m s all range none are asked many =
     let counts = counts_exist m.parts s range none in

@@ -3,7 +3,7 @@ use Rattle.std.proofs.Common.{◌≡◌, ◌∙◌, ◌<◌, ◌≤◌, ◌+◌,
 use Rattle.std.specs.List.{slice_get}
 use Rattle.std.proofs.lemmas.Bool.{cases_lt}
 use Rattle.std.proofs.lemmas.Option.{slice_get-get_or, slice_get_within}
-use Rattle.jx_base.proofs.Sums.{sum_below_grows, sum_below_more}
+use Rattle.jx_base.proofs.Sums.{sum_below_grows, sum_below_more, sum_below_next}
 use Rattle.jx_base.specs.declared.names.BlockName.{BlockName}
 use Rattle.jx_base.specs.declared.pieces.Block.{Block}
 use Rattle.jx_codeblock.specs.declared.job.Job.{Job}
@@ -16,7 +16,7 @@ use Rattle.jx_codestream.specs.First.{canvas_of, tile_number}
 use Rattle.jx_codestream.specs.Shapes.{shapes_of}
 use Rattle.jx_tier2_reader.specs.BlockOf.{AreBlocksOf, IsBlockOf, IsFoundOf}
 use Rattle.jx_plan.specs.Plan.{IsPlan, Plan}
-use Rattle.jx_plan.specs.TileJobs.{AreJobsBelow}
+use Rattle.jx_plan.specs.TileJobs.{AreJobsBelow, AreTileJobs}
 use Rattle.jx_plan.proofs.BlockLemmas.{blocks_are}
 use Rattle.jx_plan.proofs.PlanLemmas.{few_blocks}
 
@@ -86,6 +86,32 @@ not_before jobs tile n job inside is later count are = elim (cases_lt n count) [
   | inl below ↦ absurd (omega (arith, later, are.before n job (there jobs n job inside is) below))
   | inr past ↦ past
 ]
+
+-- ---- those of one tile
+pub tile_own : (jobs : List Job) (tile own first end : ℕ) → own ≡ tile → AreJobsBelow jobs own first → AreJobsBelow jobs (own + 1) end → first ≤ end → AreTileJobs jobs tile first end
+tile_own jobs tile own first end same before behind order = record {
+  order = order;
+  inside = behind.inside;
+  own = λ n job at. (
+    (λ between. let low = before.behind n job at between.0 in let high = behind.before n job at between.1 in omega (arith, low, high, same)),
+    (λ is. (
+      elim (cases_lt n first) [
+        | inl less ↦ absurd (let low = before.before n job at less in omega (arith, low, is, same))
+        | inr from ↦ from
+      ],
+      elim (cases_lt n end) [
+        | inl below ↦ below
+        | inr past ↦ absurd (let high = behind.behind n job at past in omega (arith, high, is, same))
+      ],
+    )),
+  );
+}
+
+pub tile_count : (s : Stream) (tile own first end : ℕ) → own ≡ tile → first ≡ before_tile s own → end ≡ before_tile s (own + 1) → end ≡ first + in_tile s tile
+tile_count s tile own first end same from to =
+    let next : before_tile s (own + 1) ≡ before_tile s own + in_tile s own = sum_below_next (in_tile s) own in
+    let there : in_tile s own ≡ in_tile s tile = ap (in_tile s) same in
+    omega (arith, from, to, next, there)
 
 -- ---- how many there are at most
 pub few_below : (p : Plan) (tile : ℕ) → IsPlan p → tile ≤ tile_number p.stream.siz → blocks_below (canvas_of p.stream.siz) (shapes_of p.stream) tile ≤ 1048576

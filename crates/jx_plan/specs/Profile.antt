@@ -93,7 +93,7 @@ by_component part.Component = true
 by_component _ = false
 
 -- the conditions of profile 3 in their order, 1 to 16; 17, that no packet header stands apart (PPM, PPT: A.7.4, A.7.5), holds of every written file
-abbrev pub conditions : Marks → Stream → List Bool
+unfoldable pub conditions : Marks → Stream → List Bool
 conditions m s =
     is_small s.siz ∷ has_no_offset s.siz ∷ (tile_number s.siz == 1) ∷ are_full s.siz.comps ∷ all_meet demand.Region s ∷ not (list_any is_parameter (header_of s 0))
     ∷ all_meet demand.Blocks s ∷ all_meet demand.Style s ∷ all_meet demand.Precincts s ∷ all_meet demand.Order s ∷ all_meet demand.Layers s ∷ all_meet demand.Levels s
@@ -109,5 +109,5 @@ abbrev pub first_unmet : Marks → Stream → Option ℕ
 first_unmet m s = first_failed 1 (conditions m s)
 
 -- choice 11: the first condition of profile 3 that fails, or 0 for a value whose conditions aren't known here
-abbrev pub unclaimed : Marks → Stream → Option ℕ
+unfoldable pub unclaimed : Marks → Stream → Option ℕ
 unclaimed m s = if s.siz.rsiz == 0 then None else (if s.siz.rsiz == 3 then first_unmet m s else Some 0)

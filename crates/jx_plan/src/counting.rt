@@ -92,7 +92,8 @@ pub(crate) fn check_parts(
     ensures all { IfOk result (λ all. AreAllParts options.now.marks.parts written.now all) }
     ensures cause { IfErr result (λ e. IsOverParts stream.now options.now layers e) }
 {
-    match all_parts(alloc, written, options.marks.parts)? {
+    let counted = all_parts(alloc, written, options.marks.parts)?;
+    match counted {
         Ok(all) => Ok(all),
         Err(tile) => Err(PlanFault::Choice {
             number: 5,

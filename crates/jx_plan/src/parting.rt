@@ -1,6 +1,6 @@
 //! The packets of a tile, and where it is cut into tile-parts (ITU-T T.800, A.4.2 and B.12).
 
-ghost use Rattle.std.specs.Prelude.{◌≡◌, ◌∷◌, ◌<◌, ◌≤◌, ◌-◌, ℕ, None, drop, length, take, IfOk, MatchResult};
+ghost use Rattle.std.specs.Prelude.{◌≡◌, ◌∷◌, ◌<◌, ◌≤◌, ◌-◌, ℕ, None, drop, length, take, IfOk, IfSome, MatchResult};
 ghost use Rattle.jx_progression.specs.Packets.{IsPacketName};
 ghost use Rattle.jx_codestream.specs.First.{tile_number};
 ghost use Rattle.jx_codestream.specs.InRange.{StreamInRange};
@@ -84,6 +84,18 @@ fn part_count(
     Ok(count_parts(names.as_slice(), parts))
 }
 
+/// All tile-parts where nothing is asked: one of each tile.
+#[tactic(auto, using(crate::proofs::PartedLemmas::undivided_by))]
+fn undivided(written: &Stream, parts: PartChoice) -> Option<usize>
+    requires { StreamInRange written.now }
+    ensures { IfSome result (λ all. AreAllParts parts written.now all) }
+{
+    match parts {
+        PartChoice::None => Some(usize::from(written.tile_count())),
+        _ => None,
+    }
+}
+
 /// How many tile-parts written headers would have in all; or else the lowest tile that would have over 255.
 ///
 /// # Errors
@@ -99,8 +111,8 @@ pub(crate) fn all_parts(
     requires whole { (t : ℕ) → t < tile_number written.now.siz → IsWhole written.now t }
     ensures { IfOk result (λ r. MatchResult r (λ all. AreAllParts parts written.now all) (λ t. IsPartedAt parts written.now t)) }
 {
-    if matches!(parts, PartChoice::None) {
-        return Ok(Ok(usize::from(written.tile_count())));
+    if let Some(all) = undivided(written, parts) {
+        return Ok(Ok(all));
     }
     let main = written.main_view(alloc)?;
     let mut all = 0;

@@ -194,6 +194,7 @@ fn first_failed(number: u32, met: &[bool]) -> Option<u32>
 /// subsampling, of 12 bits without a sign; no RGN; COD, COC, QCD and QCC in the main header alone; code-blocks of 32 by 32; their style 0;
 /// precincts of 128 by 128 at the lowest resolution and 256 by 256 above; the order CPRL; one layer; at most five levels; the 9-7
 /// wavelet; one guard bit; a tile-part for each component; TLM.
+#[tactic(auto, unfolding(crate::specs::Profile::conditions))]
 pub fn first_unmet(written: &Stream, marks: Marks) -> Option<u32>
     requires { StreamInRange written.now }
     ensures { result ≡ first_unmet marks written.now }
@@ -220,6 +221,7 @@ pub fn first_unmet(written: &Stream, marks: Marks) -> Option<u32>
 }
 
 /// The first condition that the profile that is claimed has and written headers don't meet; 0 where its conditions aren't known.
+#[tactic(auto, unfolding(crate::specs::Profile::unclaimed))]
 fn unclaimed(written: &Stream, marks: Marks) -> Option<u32>
     requires { StreamInRange written.now }
     ensures { result ≡ unclaimed marks written.now }

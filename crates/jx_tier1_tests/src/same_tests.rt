@@ -20,7 +20,8 @@ fn are_equal(a: &FlagGrid, b: &FlagGrid, width: u16, height: u16) -> bool
 {
     for n in 0..u32::from(width) * u32::from(height) {
         let (x, y) = place(width, height, n);
-        if a.get(x, y) != b.get(x, y) {
+        let row = u32::from(y);
+        if a.get(x, row) != b.get(x, row) {
             return false;
         }
     }

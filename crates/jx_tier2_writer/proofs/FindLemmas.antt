@@ -1,11 +1,9 @@
 -- The index is read as what it was made of, and leads to each tile-part of the file.
-use Rattle.std.proofs.Common.{◌≡◌, ◌∙◌, ◌<◌, ◌≤◌, ◌+◌, ◌-◌, ◌*◌, ◌/◌, ◌^◌, ◌==◌, ℕ, zero, suc, Bool, true, false, arith, List, [], ◌∷◌, ◌++◌, length, map, take, drop, refl, sym, ap, subst, inl, inr, ◌⊎◌, append-nil, append_assoc, length-append, Option, Some}
-use Rattle.std.proofs.Math.Seq.{take-add, take-append_seam, take-length}
+use Rattle.std.proofs.Common.{◌≡◌, ◌∙◌, ◌<◌, ◌≤◌, ◌+◌, ◌-◌, ◌*◌, ◌/◌, ◌^◌, ◌==◌, ℕ, zero, suc, true, false, arith, List, [], ◌∷◌, ◌++◌, length, map, take, drop, refl, sym, ap, subst, inl, inr, ◌⊎◌, append-nil, append_assoc, Some}
+use Rattle.std.proofs.Math.Seq.{take-add, take-append_seam}
 use Rattle.std.proofs.Math.ListN.{drop_of_length-le}
-use Rattle.std.specs.List.{All, AllByRecursion, filter, flat_map, list_any, range_with_len, slice_get}
+use Rattle.std.specs.List.{AllByRecursion, filter, flat_map, list_any, range_with_len, slice_get}
 use Rattle.std.proofs.lemmas.Bool.{cases_lt, eq-eqb, ne_eqb, or_parts}
-use Rattle.std.proofs.lemmas.Bool.Decides.{nat_tests}
-use Rattle.std.proofs.lemmas.Grind.{flat_map-append}
 use Rattle.std.proofs.lemmas.List.{drop-drop}
 use Rattle.std.proofs.lemmas.List.Elements.{All-from_recursion, filter-append, recursion_from_All}
 use Rattle.std.proofs.lemmas.Option.{same_Some}
@@ -171,9 +169,9 @@ pub index_told : (front : List Segment) (entries : List PartLength) → list_any
     → entries_told (front ++ index_segments entries) ≡ entries
 index_told front entries none small few =
     let each : (z : ℕ) → flat_map entries_in (filter (is_numbered z) (front ++ index_segments entries)) ≡ run_of entries z = λ z.
-        ap (λ (ss : List Segment). flat_map entries_in ss) (filter-append (is_numbered z) front (index_segments entries))
-        ∙ ap (λ (ss : List Segment). flat_map entries_in (ss ++ filter (is_numbered z) (index_segments entries))) (front_none z front none)
-        ∙ told_of entries z small in
+    ap (λ (ss : List Segment). flat_map entries_in ss) (filter-append (is_numbered z) front (index_segments entries))
+    ∙ ap (λ (ss : List Segment). flat_map entries_in (ss ++ filter (is_numbered z) (index_segments entries))) (front_none z front none)
+    ∙ told_of entries z small in
     same_flat (λ (z : ℕ). flat_map entries_in (filter (is_numbered z) (front ++ index_segments entries))) (run_of entries) (range_with_len 0 256) each
     ∙ runs_joined 10921 0 256 entries
     ∙ take_all (10921 * 256) (drop (10921 * 0) entries) (omega (arith, few))

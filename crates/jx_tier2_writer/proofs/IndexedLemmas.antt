@@ -1,8 +1,7 @@
 -- Headers with an index behind the main one say what they said: they are ready to be written where the headers were, and give the same
 -- packets.
-use Rattle.std.proofs.Common.{◌≡◌, ◌∙◌, ◌<◌, ◌≤◌, ◌+◌, ◌++◌, ℕ, zero, suc, false, true, add-one, arith, List, [], ◌∷◌, length, map, refl, sym, ap, subst, nat_lt, Option, None, length-append}
-use Rattle.std.proofs.lemmas.List.{length-map}
-use Rattle.std.specs.List.{All, find, flat_map, slice_get}
+use Rattle.std.proofs.Common.{◌≡◌, ◌∙◌, ◌≤◌, ◌++◌, ℕ, true, arith, List, [], length, map, refl, sym, ap, subst, nat_lt, Option}
+use Rattle.std.specs.List.{find, flat_map}
 use Rattle.jx_base.specs.declared.pieces.Block.{Block}
 use Rattle.jx_geom.specs.Geometry.{Geometry}
 use Rattle.jx_marker.specs.declared.Cod.{Cod}
@@ -13,19 +12,18 @@ use Rattle.jx_progression.specs.Packets.{IsOrder}
 use Rattle.jx_codestream.specs.declared.headers.HeaderKind.TheVariants.{Main}
 use Rattle.jx_codestream.specs.declared.Stream.{Stream}
 use Rattle.jx_codestream.specs.declared.Tile.{Tile}
-use Rattle.jx_codestream.specs.First.{lacks_default, tile_number}
-use Rattle.jx_codestream.specs.Params.{cod_of, cod_or, header_of, limit_4_of, planes_fault, tile_has_too_few, tile_planes}
+use Rattle.jx_codestream.specs.First.{lacks_default}
+use Rattle.jx_codestream.specs.Params.{cod_or, header_of, limit_4_of}
 use Rattle.jx_codestream.specs.Shapes.{geometry, layers_of, tile_at}
 use Rattle.jx_codestream.specs.Spells.{AreSegments, TilePart}
 use Rattle.jx_codestream.specs.Tiles.{entries_joined, entry_in, in_slot, or_list}
 use Rattle.jx_tile.specs.Covered.{IsListOf}
-use Rattle.jx_tile.specs.Totals.{totals_fault}
 use Rattle.jx_tier2_reader.specs.Written.{Packets, packets_in}
 use Rattle.jx_options.specs.declared.Marks.{Marks}
-use Rattle.jx_plan.specs.Groups.{HasFewEntries, HasFewParts, IsPartCount}
+use Rattle.jx_plan.specs.Groups.{HasFewEntries, IsPartCount}
 use Rattle.jx_tier2_writer.specs.Index.{entry_of, index_of, indexed}
 use Rattle.jx_tier2_writer.specs.Ready.{AreReady, IsTileReady, cod_at}
-use Rattle.jx_tier2_writer.specs.TileParts.{packets_of, parts_with, tile_parts}
+use Rattle.jx_tier2_writer.specs.TileParts.{parts_with}
 use Rattle.jx_tier2_writer.proofs.AlikeLemmas.{AreAlike, cod_main, tile_planes_main, too_few_main}
 use Rattle.jx_tier2_writer.proofs.HeaderLemmas.{segments_on}
 use Rattle.jx_tier2_writer.proofs.IndexLemmas.{index_held, index_is, index_stands, tlm_defaults, tlm_entries, tlm_slots, tlms}

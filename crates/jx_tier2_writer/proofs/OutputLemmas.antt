@@ -10,7 +10,7 @@ use Rattle.jx_base.proofs.Joined.{joined_length, joined_same}
 use Rattle.jx_geom.specs.Geometry.{Geometry}
 use Rattle.jx_marker.specs.declared.Progression.{Progression}
 use Rattle.jx_progression.specs.declared.names.PacketName.{PacketName}
-use Rattle.jx_progression.specs.Packets.{AreCovered, IsOrder}
+use Rattle.jx_progression.specs.Packets.{AreCovered}
 use Rattle.jx_progression.proofs.OrderLemmas.{one_order}
 use Rattle.jx_codestream.specs.declared.Stream.{Stream}
 use Rattle.jx_codestream.specs.First.{tile_number}

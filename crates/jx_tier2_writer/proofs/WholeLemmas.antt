@@ -1,5 +1,5 @@
 -- PLT segments have whole lengths, at least one, and none begins with a group of zeros.
-use Rattle.std.proofs.Common.{◌≡◌, ◌∙◌, ◌<◌, ◌≤◌, ◌+◌, ◌*◌, ◌/◌, ◌%◌, ◌^◌, nat_eq, nat_le, nat_lt, ℕ, zero, suc, Bool, true, false, ◌&&◌, arith, List, [], ◌∷◌, ◌++◌, length, refl, sym, ap, subst, inl, inr, append-nil, length-append, cond}
+use Rattle.std.proofs.Common.{◌≡◌, ◌∙◌, ◌<◌, ◌≤◌, ◌+◌, ◌*◌, ◌/◌, ◌%◌, ◌^◌, nat_eq, nat_le, nat_lt, ℕ, zero, suc, Bool, true, false, ◌&&◌, arith, List, [], ◌∷◌, ◌++◌, length, refl, sym, ap, inl, inr, append-nil, length-append, cond}
 use Rattle.std.specs.List.{All, AllByRecursion}
 use Rattle.std.proofs.lemmas.Bool.{cases_Bool, cases_lt}
 use Rattle.std.proofs.lemmas.Bool.Decides.{nat_tests}

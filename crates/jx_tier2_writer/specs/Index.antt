@@ -1,6 +1,6 @@
 -- The index of the tile-parts in the main header (ITU-T T.800, A.7.1): TLM segments behind all its other segments, which name each
 -- tile-part of the file in their order by its tile, in two bytes, and its length as Psot tells it, in four.
-use Rattle.std.specs.Prelude.{ℕ, zero, suc, ◌+◌, ◌-◌, ◌*◌, ◌/◌, ◌==◌, Bool, true, false, List, [], ◌∷◌, ◌++◌, length, map, take, drop, slice_index, if◌then◌else◌}
+use Rattle.std.specs.Prelude.{ℕ, zero, suc, ◌+◌, ◌-◌, ◌*◌, ◌/◌, ◌==◌, Bool, false, List, [], ◌∷◌, ◌++◌, length, map, take, drop, slice_index, if◌then◌else◌}
 use Rattle.std.specs.List.{filter, flat_map, range_with_len}
 use Rattle.byteorder.specs.Endian.{big_bytes, big_from}
 use Rattle.jx_marker.specs.declared.Segment.{Segment}

@@ -4,10 +4,10 @@ pub mod TileParts
 pub mod Ready
 pub mod Tile
 pub mod Kept
+pub mod Lengths
 -- Inner: no other crate cites these.
 pub mod Coded
 pub mod Leaves
-pub mod Lengths
 pub mod Names
 pub mod Own
 pub mod Packed

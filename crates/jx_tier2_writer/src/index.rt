@@ -1,11 +1,11 @@
 //! The index of the tile-parts in the main header (ITU-T T.800, A.7.1).
 
-ghost use Rattle.std.specs.Prelude.{◌≡◌, ◌<◌, ◌≤◌, ◌+◌, ◌*◌, ◌∷◌, ◌++◌, ℕ, length, take, IfOk, OnOk};
+ghost use Rattle.std.specs.Prelude.{◌≡◌, ◌≤◌, ◌*◌, ◌∷◌, ◌++◌, ℕ, length, IfOk, OnOk};
 ghost use Rattle.std.specs.List.{flat_map};
 ghost use Rattle.jx_marker.specs.declared.Segment.TheVariants as segment;
 ghost use Rattle.jx_marker.specs.Segments.{spelling};
 ghost use Rattle.jx_codestream.specs.Spells.{all_bytes};
-ghost use Rattle.jx_tier2_writer.specs.Index.{entry_bytes, index_count, index_segment, index_segments, run_of};
+ghost use Rattle.jx_tier2_writer.specs.Index.{entry_bytes, index_segments, run_of};
 
 use crate::lengths::are_bytes;
 use jx_base::NoMemory;

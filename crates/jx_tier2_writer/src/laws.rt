@@ -54,8 +54,8 @@ pub fn output_is_spelled()
         → AllShort out.parts (tile_number s.siz) → IsRead b (stream_read m s out.parts) }
 {}
 
-/// This stream says what the headers say that the file was written from: each tile's header has PLT segments behind it at most, so
-/// all parameters, steps, planes, places and entries are the same.
+/// This stream says what the headers say that the file was written from: the main header has the index behind it, where it is asked,
+/// and each tile's header PLT segments at most, so all parameters, steps, planes, places and entries are the same.
 pub fn output_has_headers()
     ensures { (m : Marks) (s : Stream) (blocks : List Block) (b : List ℕ) (out : IsOutput m s blocks b) → AreReady m s
         → AllShort out.parts (tile_number s.siz) → HasHeadersOf (index_of m (joined out.parts 0 (tile_number s.siz))) s (stream_read m s out.parts) }
@@ -81,16 +81,16 @@ pub fn output_keeps_blocks()
 {}
 
 /// A written file keeps to more than a reader asks for: each tile-part tells its tile's number of tile-parts, SOP and EPH stand with
-/// each packet exactly where the tile's COD announces them, PLT segments that are asked for tell the packets' lengths, and EOC ends
-/// the file.
+/// each packet exactly where the tile's COD announces them, PLT segments that are asked for tell the packets' lengths, the index that is
+/// asked for names just these tile-parts, and EOC ends the file.
 pub fn output_is_strict()
     ensures { (m : Marks) (s : Stream) (blocks : List Block) (b : List ℕ) (out : IsOutput m s blocks b) → AreReady m s
         → AllShort out.parts (tile_number s.siz) → AreBlocksOf s blocks → All IsSound blocks → IsStrict m b (stream_read m s out.parts) }
 {}
 
-/// The index of a written file, as it is read from its main header, names each of its tile-parts in their order by the tile and Psot (`told`),
-/// where it is asked and nothing of what isn't written stands in the headers. A tile-part stands behind the main header and as many bytes as those
-/// before it have together (`stand`), so a reader that takes the index at its word finds each (T.800, A.7.1).
+/// The index of a written file, as it is read from its main header, names each of its tile-parts in their order by the tile and Psot
+/// (`told`), where it is asked and nothing of what isn't written stands in the headers. A tile-part stands behind the main header and
+/// as many bytes as those before it have together (`stand`), so a reader that takes the index at its word finds each (T.800, A.7.1).
 pub fn index_finds_parts()
     ensures told { (m : Marks) (s : Stream) (blocks : List Block) (b : List ℕ) (out : IsOutput m s blocks b) → AreReady m s
         → AllShort out.parts (tile_number s.siz) → m.tlm ≡ true → list_any is_left_out s.main ≡ false
@@ -98,11 +98,11 @@ pub fn index_finds_parts()
     ensures stand { (m : Marks) (s : Stream) (blocks : List Block) (b : List ℕ) (out : IsOutput m s blocks b) → AreReady m s
         → AllShort out.parts (tile_number s.siz) → (i : ℕ) (p : TilePart) → slice_get (joined out.parts 0 (tile_number s.siz)) i ≡ Some p
         → take p.sot.psot (drop (first_sot s.siz (stream_read m s out.parts).main + length_before i (map entry_of (joined out.parts 0 (tile_number s.siz)))) b)
-            ≡ part_bytes (length s.siz.comps) p }
+        ≡ part_bytes (length s.siz.comps) p }
 {}
 
-/// What the index tells of a tile's tile-parts are the tile and how many bytes each has (`lengths`); where it is asked it has room for
-/// those of all tiles (`few`).
+/// What the index tells of a tile's tile-parts are the tile and how many bytes each has (`lengths`); where it is asked it has room
+/// for those of all tiles (`few`).
 pub fn entries_are_lengths()
     ensures lengths { (m : Marks) (s : Stream) (blocks : List Block) (t : ℕ) (parts : List TilePart) → AreTilePartsOf m s blocks t parts
         → map entry_of parts ≡ map (length_in t) (map (part_bytes (length s.siz.comps)) parts) }
@@ -145,8 +145,8 @@ pub fn one_output()
 {}
 
 /// The headers that are written, with 1 to 65,535 layers, are such as a file may be written from, where nothing is in the way: no
-/// POC and no PLT stands in them, each COD announces SOP and EPH as asked, and no tile is cut into over 255 tile-parts (T.800, A.4,
-/// A.6 and A.8).
+/// POC and no PLT stands in them, each COD announces SOP and EPH as asked, no tile is cut into over 255 tile-parts, and the index has
+/// room for all tile-parts where it is asked (T.800, A.4, A.6 to A.8).
 pub fn written_is_ready()
     ensures { (w : Wanted) (layers : ℕ) (s : Stream) → 1 ≤ layers → layers < 2 ^ 16 → MayBeWanted w → HeadersStand s → StreamInRange s → totals_fault s ≡ None
         → IsFree s w layers → AreReady w.marks (headers_with w layers s) }

@@ -1,4 +1,4 @@
-use Rattle.std.proofs.Common.{◌≡◌, ◌*◌}
+use Rattle.std.proofs.Common.{◌*◌}
 use Rattle.jx_tier2_writer.proofs.IndexLemmas.{run_taken}
 use Rattle.jx_tier2_writer.proofs.index.run_in.Goals as goal
 
