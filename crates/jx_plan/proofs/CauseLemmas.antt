@@ -103,7 +103,7 @@ one_parted parts s c d x y = elim (cases_lt c d) [
 
 -- ---- choice 10
 entries_few : (m : Marks) (s : Stream) → HasManyEntries m s → HasFewEntries m s → ⊥
-entries_few m s many few = omega (arith, many.many, few.few many.asked many.counts many.each)
+entries_few m s many few = omega (arith, many.many, few many.asked many.counts many.each)
 
 -- ---- nothing is in the way of a plan
 few_parts : (x y : Wanted) (s t : Stream) (n : ℕ) → x ≡ y → s ≡ t → HasFewParts x.marks.parts s n → HasFewParts y.marks.parts t n

@@ -1,5 +1,5 @@
 -- Tiles that are cut into few tile-parts, or many; and how many tile-parts all have.
-use Rattle.std.proofs.Common.{◌≡◌, ◌≤◌, ◌<◌, ◌⊎◌, ◌+◌, ◌*◌, ◌∙◌, ap, sym, subst, refl, arith, Bool, false, true, ℕ, zero, suc, List, length, inl, inr, None}
+use Rattle.std.proofs.Common.{◌≡◌, ◌≤◌, ◌<◌, ◌⊎◌, ◌+◌, ◌∙◌, ap, sym, subst, refl, arith, Bool, false, true, ℕ, zero, suc, List, length, inl, inr, None}
 use Rattle.std.proofs.lemmas.Bool.{cases_lt}
 use Rattle.jx_base.specs.Joined.{sum_below}
 use Rattle.jx_base.proofs.Sums.{sum_below_next}
@@ -107,20 +107,15 @@ entries_or m s range none = by m.tlm refl
     counts = counts_exist m.parts s range none
 
     by : (asked : Bool) → m.tlm ≡ asked → HasFewEntries m s ⊎ HasManyEntries m s
-    by false e = inl (record { few = λ yes. absurd (cc) })
+    by false e = inl (λ yes. absurd (cc))
     by true e = elim (cases_lt most_entries (sum_below counts.0 (tile_number s.siz))) [
       | inl many ↦ inr (record { asked = e; counts = counts.0; each = counts.1; many = many })
-      | inr few ↦ inl (record {
-        few = λ yes others each.
-            let same : sum_below others (tile_number s.siz) ≡ sum_below counts.0 (tile_number s.siz) = one_total m.parts s range none others counts.0 each counts.1 (tile_number s.siz) (omega arith) in
-            omega (arith, few, same);
-      })
+      | inr few ↦ inl (λ yes others each.
+          let same : sum_below others (tile_number s.siz) ≡ sum_below counts.0 (tile_number s.siz) = one_total m.parts s range none others counts.0 each counts.1 (tile_number s.siz) (omega arith) in
+          omega (arith, few, same))
     ]
 
 -- by the number that was counted
-pub few_counted : (m : Marks) (s : Stream) (all : ℕ) → AreAllParts m.parts s all → (m.tlm ≡ true → all ≤ most_entries) → HasFewEntries m s
-few_counted m s all are few = record { few = λ asked counts each. omega (arith, few asked, are.total counts each) }
-
 pub many_counted : (m : Marks) (s : Stream) (all : ℕ) → StreamInRange s → totals_fault s ≡ None → AreAllParts m.parts s all → m.tlm ≡ true → most_entries < all → HasManyEntries m s
 many_counted m s all range none are asked many =
     let counts = counts_exist m.parts s range none in

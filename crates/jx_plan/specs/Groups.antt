@@ -72,8 +72,8 @@ abbrev pub most_entries : ℕ
 most_entries = 2795776
 
 -- where TLM is asked there aren't more tile-parts in all
-pub record HasFewEntries (m : Marks) (s : Stream) : Type 0 where
-  pub few : m.tlm ≡ true → (counts : ℕ → ℕ) → ArePartCounts m.parts s counts → sum_below counts (tile_number s.siz) ≤ most_entries
+abbrev pub HasFewEntries : Marks → Stream → Type 0
+HasFewEntries m s = m.tlm ≡ true → (counts : ℕ → ℕ) → ArePartCounts m.parts s counts → sum_below counts (tile_number s.siz) ≤ most_entries
 
 -- choice 10: there are
 pub record HasManyEntries (m : Marks) (s : Stream) : Type 0 where

@@ -1,6 +1,5 @@
-use Rattle.std.proofs.Common.{rules, ◌≡◌, ◌<◌, ◌^◌, ap, None}
+use Rattle.std.proofs.Common.{rules, ◌≡◌, ◌<◌, ◌^◌, ap}
 use Rattle.std.proofs.lemmas.Result.{IfErr-weaker}
-use Rattle.jx_options.specs.declared.Marks.{Marks}
 use Rattle.jx_options.specs.Wanted.{Wanted}
 use Rattle.jx_plan.specs.Groups.{HasFewEntries}
 use Rattle.jx_plan.specs.Plan.{headers_with}
