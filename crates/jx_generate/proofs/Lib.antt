@@ -12,6 +12,6 @@ mod OneLayer
 mod FillLemmas
 mod WrittenLemmas
 mod WellLemmas
-pub mod HeaderBits
+mod HeaderBits
 mod ShortLemmas
 mod PlainLemmas
