@@ -12,6 +12,6 @@ mod OneLayer
 mod FillLemmas
 mod WrittenLemmas
 mod WellLemmas
-mod HeaderBits
+pub mod HeaderBits
 mod ShortLemmas
 mod PlainLemmas
