@@ -11,9 +11,9 @@ use Rattle.jx_layers.specs.Rule.{Rule}
 use Rattle.jx_plan.specs.declared.faults.Misfit.{Misfit}
 use Rattle.jx_plan.specs.declared.faults.PlanFault.{PlanFault}
 use Rattle.jx_plan.specs.declared.faults.PlanFault.TheVariants as unplanned
-use Rattle.jx_plan.specs.Causes.{IsPlaneBroken}
+use Rattle.jx_plan.specs.Causes.{IsLate, IsPlaneBroken}
 use Rattle.jx_plan.specs.Fits.{AreUnfit, IsMisfitAt}
-use Rattle.jx_plan.specs.Planned.{HasPlanCause, IsUnplannedBy, LacksPlan}
+use Rattle.jx_plan.specs.Planned.{HasPlanCause, IsUnplannedBy, LacksPlan, layers_of_rule}
 use Rattle.jx_options.specs.Wanted.{Wanted}
 use Rattle.jx_transcode.specs.Filed.{told_of_plan}
 use Rattle.jx_transcode.specs.Jp2Run.{raised}
@@ -69,9 +69,14 @@ unfit_tile s precincts (unplanned.Choice number place) (inr changed) = λ two. c
 unfit_tile s precincts (unplanned.Limit number found) is = tt
 unfit_tile s precincts unplanned.NoMemory is = tt
 
+late_tile : (s : Stream) (w : Wanted) (layers number place : ℕ) → IsLate s w layers number place → number ≡ 2 → ⊥
+late_tile s w layers number place (inl five) two = omega (arith, five.0, two)
+late_tile s w layers number place (inr (inl ten)) two = omega (arith, ten.0, two)
+late_tile s w layers number place (inr (inr eleven)) two = omega (arith, eleven.0, two)
+
 by_tile : (r : Rule) (s : Stream) (blocks : List Block) (w : Wanted) (e : PlanFault) → IsUnplannedBy r s blocks w e → HasTile s e
 by_tile r s blocks w (unplanned.Choice number place) (inl crowded) = λ two. absurd (omega (arith, crowded.0, two))
-by_tile r s blocks w (unplanned.Choice number place) (inr parted) = λ two. absurd (omega (arith, parted.0, two))
+by_tile r s blocks w (unplanned.Choice number place) (inr late) = λ two. absurd (late_tile s w (layers_of_rule r s blocks) number place late.cause two)
 by_tile r s blocks w (unplanned.Limit number found) is = tt
 by_tile r s blocks w unplanned.NoMemory is = tt
 

@@ -44,13 +44,14 @@ use Rattle.jx_plan.specs.Fits.{AreUnfit, Fits, IsUnfit}
 use Rattle.jx_plan.specs.Groups.{HasManyParts, groups_of}
 use Rattle.jx_plan.specs.Headers.{stream_written}
 use Rattle.jx_plan.specs.Plan.{MayBePlanned, headers_with, most_packets}
-use Rattle.jx_plan.specs.Planned.{HasPlanCause, IsUnplannedBy, LacksPlan, MakesLayers}
-use Rattle.jx_plan.specs.Causes.{IsPlaneBroken}
+use Rattle.jx_plan.specs.Planned.{HasPlanCause, IsUnplannedBy, LacksPlan, MakesLayers, layers_of_rule}
+use Rattle.jx_plan.specs.Causes.{IsLate, IsPlaneBroken}
 use Rattle.jx_plan.specs.Standing.{HeadersStand}
 use Rattle.jx_generate.specs.Headers.{AreSizes}
 use Rattle.jx_generate.specs.Plain.{IsPlain}
 use Rattle.jx_generate.specs.Reading.{stream_made}
 use Rattle.jx_transcode.specs.MakeRun.{wanted_made}
+use Rattle.jx_plan.specs.Profile.{unclaimed}
 
 -- the resolution doesn't fall
 abbrev Rises : PacketName → PacketName → Type 0
@@ -190,9 +191,19 @@ module _ (laws : MadeLaws) (w h size : ℕ) (blocks : List Block) (sizes : AreSi
   plain : All IsPlain blocks
   plain = laws.plain w h size blocks sizes may.blocks_are may.sound
 
+  -- no TLM is asked, and no profile claimed
+  unclaimed_made : (layers place : ℕ) → unclaimed wanted_made.marks (headers_with wanted_made layers own) ≡ Some place → ⊥
+  unfolding unclaimed stream_written
+  unclaimed_made layers place e = absurd (cc)
+
+  by_late : (layers number place : ℕ) → IsLate own wanted_made layers number place → ⊥
+  by_late layers number place (inl five) = not_parted laws w h size layers place sizes five.1.many.inside five.1.many.many
+  by_late layers number place (inr (inl ten)) = let asked : false ≡ true = ten.1.many.asked in absurd (cc)
+  by_late layers number place (inr (inr eleven)) = unclaimed_made layers place eleven.1.first
+
   by_rule : (r : Rule) (e : PlanFault) → MakesLayers (Some r) own blocks → (e ≡ fault.NoMemory → ⊥) → IsUnplannedBy r own blocks wanted_made e → ⊥
   by_rule r (fault.Choice number place) makes caused (inl four) = not_crowded r _ blocks place (slice_get blocks place) plain refl four.1.lowest.0
-  by_rule r (fault.Choice number place) makes caused (inr five) = not_parted laws w h size _ place sizes five.1.many.many.inside five.1.many.many.many
+  by_rule r (fault.Choice number place) makes caused (inr late) = by_late (layers_of_rule r own blocks) number place late.cause
   by_rule r (fault.Limit number found) makes caused seven =
       let few = few_packets laws w h size _ sizes makes.1 in
       omega (arith, few, seven.1.count, seven.1.many)

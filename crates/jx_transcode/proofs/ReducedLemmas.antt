@@ -1,5 +1,5 @@
 -- What is left of an input without its highest resolutions: all of it with 0, and where nothing is.
-use Rattle.std.proofs.Common.{◌≡◌, ◌∙◌, ◌≤◌, ◌<◌, ◌^◌, ℕ, List, [], length, Option, None, Some, ap, refl, sym, subst, arith, inl, inr}
+use Rattle.std.proofs.Common.{◌≡◌, ◌∙◌, ◌≤◌, ◌<◌, ◌^◌, ℕ, List, [], length, Option, None, Some, ap, refl, sym, subst, arith, inl, inr, ◌⊎◌}
 use Rattle.std.specs.Option.{option_or}
 use Rattle.jx_base.specs.declared.pieces.Block.{Block}
 use Rattle.jx_codestream.specs.declared.Stream.{Stream}
@@ -64,13 +64,17 @@ choice_number n p k q e = cc
 never_empty : (n p : ℕ) → ◌≡◌ {A = Option ReduceFault} None (Some (unreduced.Choice n p)) → ⊥
 never_empty n p e = cc
 
-above_seven : (a b : Option ℕ) (number place : ℕ) → option_or (choice_at 8 a) (choice_at 9 b) ≡ Some (unreduced.Choice number place) → 7 < number
-above_seven (Some p) b number place e = omega (arith, choice_number 8 p number place e)
-above_seven None (Some p) number place e = omega (arith, choice_number 9 p number place e)
-above_seven None None number place e = absurd (never_empty number place e)
+eight_or_nine : (a b : Option ℕ) (number place : ℕ) → option_or (choice_at 8 a) (choice_at 9 b) ≡ Some (unreduced.Choice number place) → (number ≡ 8) ⊎ (number ≡ 9)
+eight_or_nine (Some p) b number place e = inl (sym (choice_number 8 p number place e))
+eight_or_nine None (Some p) number place e = inr (sym (choice_number 9 p number place e))
+eight_or_nine None None number place e = absurd (never_empty number place e)
 
-pub choice_above : (d : ℕ) (s : Stream) (number place : ℕ) → first_choice d s ≡ Some (unreduced.Choice number place) → 7 < number
-choice_above d s number place e = above_seven (first_passing d s.siz.comps) (first_fewer d s) number place e
+pub choice_of_all : (d : ℕ) (s : Stream) (number place : ℕ) → first_choice d s ≡ Some (unreduced.Choice number place) → (number ≡ 8) ⊎ (number ≡ 9)
+choice_of_all d s number place e = eight_or_nine (first_passing d s.siz.comps) (first_fewer d s) number place e
+
+never_seven : (number : ℕ) → (number ≡ 8) ⊎ (number ≡ 9) → number ≡ 7 → ⊥
+never_seven number (inl eight) e = omega (arith, e, eight)
+never_seven number (inr nine) e = omega (arith, e, nine)
 
 no_memory_by : (a b : Option ℕ) → option_or (choice_at 8 a) (choice_at 9 b) ≡ Some unreduced.NoMemory → ⊥
 no_memory_by (Some p) b e = cc
@@ -84,8 +88,8 @@ pub answered_unreduced : WholeLaws → (name : Text) (work : Work) (aim : Aim) (
     → length input ≤ most_bytes → Reads input s blocks → IsAnswered name work aim input (told_of_all e) (all_told e n) 0 [] mm mm
 answered_unreduced laws name work aim input s blocks (unreduced.Choice number place) n mm cause count within reads =
     let is : IsIrreducible aim.reduce input number place = record { stream = s; blocks = blocks; reads = reads; cause = cause } in
-    let above : 7 < number = choice_above aim.reduce s number place cause in
-    let other : number ≡ 7 → ⊥ = λ e. omega (arith, e, above) in
+    let above : (number ≡ 8) ⊎ (number ≡ 9) = choice_of_all aim.reduce s number place cause in
+    let other : number ≡ 7 → ⊥ = never_seven number above in
     let all : HasBlocks 0 input n = record { stream = s; blocks = blocks; reads = all_left laws input s blocks within reads; count_is = count } in record {
       verdict = λ v. (within, inr (inr is));
       leaves = inr (other, inr (above, all), untouched mm);

@@ -14,9 +14,9 @@ use Rattle.jx_tile.specs.Totals.{totals_fault}
 use Rattle.jx_layers.specs.Rule.{Rule}
 use Rattle.jx_plan.specs.declared.faults.PlanFault.{PlanFault}
 use Rattle.jx_plan.specs.declared.faults.PlanFault.TheVariants as unplanned
-use Rattle.jx_plan.specs.Causes.{IsPlaneBroken}
+use Rattle.jx_plan.specs.Causes.{IsLate, IsPlaneBroken}
 use Rattle.jx_plan.specs.Fits.{AreUnfit}
-use Rattle.jx_plan.specs.Planned.{HasPlanCause, IsUnplannedBy, LacksPlan}
+use Rattle.jx_plan.specs.Planned.{HasPlanCause, IsUnplannedBy, LacksPlan, layers_of_rule}
 use Rattle.jx_options.specs.Wanted.{Wanted}
 use Rattle.jx_transcode.specs.Aims.{Aim, rule_in}
 use Rattle.jx_transcode.specs.Filed.{IsAnswered, blocks_told, told_by, told_of_plan}
@@ -39,34 +39,39 @@ pub no_plan : (name : Text) (work : Work) (aim : Aim) (input : List ℕ) (mm : M
 no_plan name work aim input mm =
     record { verdict = λ v. absurd v; leaves = refused_short name aim input mm; unsaid = refused_short name aim input mm; tape = inl refl; whole = λ done. absurd (undone status.NoMemory tt done); taped = inl refl }
 
--- there is no limit but 7, and choice 7 isn't among the choices of a plan
+-- there is no limit but 7, and the choices 7, 8 and 9 aren't among the choices of a plan
 IsBelow : PlanFault → Type 0
-IsBelow (unplanned.Choice number place) = number < 7
+IsBelow (unplanned.Choice number place) = (number < 7) ⊎ (9 < number)
 IsBelow (unplanned.Limit number found) = number ≡ 7
 IsBelow unplanned.NoMemory = Unit {0}
 
 broken_below : (style : Option Style) (blocks : List Block) (e : PlanFault) → IsPlaneBroken style blocks e → IsBelow e
 unfolding IsBelow
-broken_below style blocks (unplanned.Choice number place) is = omega (arith, is.0)
+broken_below style blocks (unplanned.Choice number place) is = inl (omega (arith, is.0))
 broken_below style blocks (unplanned.Limit number found) is = absurd is
 broken_below style blocks unplanned.NoMemory is = tt
 
 unfit_below : (s : Stream) (precincts : Option (List ℕ)) (e : PlanFault) → AreUnfit s precincts e → IsBelow e
 unfolding IsBelow
-unfit_below s precincts (unplanned.Choice number place) (inl above) = omega (arith, above.0)
-unfit_below s precincts (unplanned.Choice number place) (inr changed) = omega (arith, changed.0)
+unfit_below s precincts (unplanned.Choice number place) (inl above) = inl (omega (arith, above.0))
+unfit_below s precincts (unplanned.Choice number place) (inr changed) = inl (omega (arith, changed.0))
 unfit_below s precincts (unplanned.Limit number found) is = absurd is
 unfit_below s precincts unplanned.NoMemory is = tt
 
+late_below : (s : Stream) (w : Wanted) (layers number place : ℕ) → IsLate s w layers number place → (number < 7) ⊎ (9 < number)
+late_below s w layers number place (inl five) = inl (omega (arith, five.0))
+late_below s w layers number place (inr (inl ten)) = inr (omega (arith, ten.0))
+late_below s w layers number place (inr (inr eleven)) = inr (omega (arith, eleven.0))
+
 by_below : (r : Rule) (s : Stream) (blocks : List Block) (w : Wanted) (e : PlanFault) → IsUnplannedBy r s blocks w e → IsBelow e
 unfolding IsBelow
-by_below r s blocks w (unplanned.Choice number place) (inl crowded) = omega (arith, crowded.0)
-by_below r s blocks w (unplanned.Choice number place) (inr parted) = omega (arith, parted.0)
+by_below r s blocks w (unplanned.Choice number place) (inl crowded) = inl (omega (arith, crowded.0))
+by_below r s blocks w (unplanned.Choice number place) (inr late) = late_below s w (layers_of_rule r s blocks) number place late.cause
 by_below r s blocks w (unplanned.Limit number found) is = is.0
 by_below r s blocks w unplanned.NoMemory is = tt
 
-six : 6 < 7
-six = omega arith
+six : (6 < 7) ⊎ (9 < 6)
+six = inl (omega arith)
 
 lacks_below : (o : Option Rule) (s : Stream) (blocks : List Block) (w : Wanted) (e : PlanFault) → LacksPlan o s blocks w e → IsBelow e
 unfolding IsBelow
@@ -78,15 +83,21 @@ cause_below o s blocks w e (inl broken) = broken_below w.style blocks e broken
 cause_below o s blocks w e (inr (whole, inl unfit)) = unfit_below s w.precincts e unfit
 cause_below o s blocks w e (inr (whole, inr lacks)) = lacks_below o s blocks w e lacks
 
-choice_below : (o : Option Rule) (s : Stream) (blocks : List Block) (w : Wanted) (number place : ℕ) → HasPlanCause o s blocks w (unplanned.Choice number place) → number < 7
+choice_below : (o : Option Rule) (s : Stream) (blocks : List Block) (w : Wanted) (number place : ℕ) → HasPlanCause o s blocks w (unplanned.Choice number place) → (number < 7) ⊎ (9 < number)
 unfolding IsBelow
 choice_below o s blocks w number place cause = cause_below o s blocks w (unplanned.Choice number place) cause
 
 not_seven : (o : Option Rule) (s : Stream) (blocks : List Block) (w : Wanted) (number place : ℕ) → HasPlanCause o s blocks w (unplanned.Choice number place) → number ≡ 7 → ⊥
-not_seven o s blocks w number place cause e = omega (arith, e, choice_below o s blocks w number place cause)
+not_seven o s blocks w number place cause e = elim (choice_below o s blocks w number place cause) [
+  | inl low ↦ omega (arith, e, low)
+  | inr high ↦ omega (arith, e, high)
+]
 
-below_eight : (o : Option Rule) (s : Stream) (blocks : List Block) (w : Wanted) (number place : ℕ) → HasPlanCause o s blocks w (unplanned.Choice number place) → number < 8
-below_eight o s blocks w number place cause = omega (arith, choice_below o s blocks w number place cause)
+not_whole : (o : Option Rule) (s : Stream) (blocks : List Block) (w : Wanted) (number place : ℕ) → HasPlanCause o s blocks w (unplanned.Choice number place) → (number ≡ 8 → ⊥) × (number ≡ 9 → ⊥)
+not_whole o s blocks w number place cause = elim (choice_below o s blocks w number place cause) [
+  | inl low ↦ ((λ e. omega (arith, e, low)), (λ e. omega (arith, e, low)))
+  | inr high ↦ ((λ e. omega (arith, e, high)), (λ e. omega (arith, e, high)))
+]
 
 pub limit_seven : (o : Option Rule) (s : Stream) (blocks : List Block) (w : Wanted) (number found : ℕ) → HasPlanCause o s blocks w (unplanned.Limit number found) → number ≡ 7
 unfolding IsBelow
@@ -121,7 +132,7 @@ answered_unplanned name work aim input s blocks (unplanned.Limit number found) n
 }
 answered_unplanned name work aim input s blocks (unplanned.Choice number place) n mm cause count within reads = record {
   verdict = λ v. (within, inr (inl (is_unplanned aim input s blocks (unplanned.Choice number place) cause reads)));
-  leaves = inr (not_seven (rule_in aim s blocks) s blocks aim.wanted number place cause, inl (below_eight (rule_in aim s blocks) s blocks aim.wanted number place cause, has_blocks aim.reduce input s blocks n count reads), untouched mm);
+  leaves = inr (not_seven (rule_in aim s blocks) s blocks aim.wanted number place cause, inl (not_whole (rule_in aim s blocks) s blocks aim.wanted number place cause, has_blocks aim.reduce input s blocks n count reads), untouched mm);
   unsaid = over_short name aim input s blocks (unplanned.Choice number place) n mm (λ e. cc) cause count within reads;
   tape = inl refl;
   whole = λ done. absurd (undone (status.Choice number place) tt done);

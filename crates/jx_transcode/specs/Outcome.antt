@@ -193,7 +193,7 @@ IsLimited d input number blocks = ((number ≡ 7) × HasBlocks d input blocks) �
 
 -- choice 8 and choice 9 are of the whole input, the others of what is left of it
 abbrev pub IsChosen : ℕ → List ℕ → ℕ → ℕ → Type 0
-IsChosen d input number blocks = ((number < 8) × HasBlocks d input blocks) ⊎ ((7 < number) × HasBlocks 0 input blocks)
+IsChosen d input number blocks = (((number ≡ 8 → ⊥) × (number ≡ 9 → ⊥)) × HasBlocks d input blocks) ⊎ (((number ≡ 8) ⊎ (number ≡ 9)) × HasBlocks 0 input blocks)
 
 -- what stands after a status, the blocks that are told, and the bytes of the output after Done
 abbrev pub Leaves : Text → Aim → List ℕ → Status → ℕ → ℕ → Meaning → Meaning → Type 0
