@@ -1,5 +1,5 @@
 -- A codestream that is written to a file: what stands under its name.
-use Rattle.std.proofs.Common.{◌≡◌, ◌∙◌, ℕ, true, List, IsTrue, Err, IsErrOf, ap, inl, inr, refl, sym, subst}
+use Rattle.std.proofs.Common.{◌≡◌, ◌∙◌, ℕ, true, List, IsTrue, Result, Ok, Err, IfErr, OnOk, IsErrOf, ap, inl, inr, refl, sym, subst}
 use Rattle.jx_io.specs.Device.{Meaning, after_create, after_finish, after_write}
 use Rattle.jx_io.specs.declared.refused.Refused.{Refused}
 use Rattle.jx_plan.specs.Plan.{Plan}
@@ -113,3 +113,12 @@ unmeasured_unfailed p h of failed = subst (IsUnmeasured p) failed of
 
 pub unmeasured_cause : {T : Type 0} (p : Plan) (h : Halt) (X : Type 0) → IsUnmeasured p h → IsErrOf {T = T} (Err h) halt.Failed → X
 unmeasured_cause p h X of failed = absurd (unmeasured_unfailed p h of (let is : h ≡ halt.Failed = cc in is))
+
+-- ---- what is said of each end of a call
+pub begun_halted : {T : Type 0} (r : Result T Halt) (p : Plan) (name : Text) (old new : Meaning) → IfErr r (λ h. IsFileBegun p name old new) → IfErr r (λ h. IsFault h) → IfErr r (λ h. IsFileHalted p name h old new)
+begun_halted (Ok x) p name old new begun fault = tt
+begun_halted (Err h) p name old new begun fault = fault_begun p name h old new fault begun
+
+pub on_ok_any : {T : Type 0} (r : Result T Halt) (X : Type 0) → X → OnOk r X
+on_ok_any (Ok x) X is = is
+on_ok_any (Err h) X is = tt

@@ -1,7 +1,8 @@
-use Rattle.std.proofs.Common.{arith, refl}
+use Rattle.std.proofs.Common.{arith}
+use Rattle.std.proofs.lemmas.Result.{IfErr-weaker}
 use Rattle.jx_rounds.specs.declared.halt.Halt.TheVariants as halt
 use Rattle.jx_rounds.proofs.TapedLemmas.{whole_taped}
-use Rattle.jx_transcode.proofs.FiledLemmas.{fault_begun, file_unmeasured, nothing_begun, unmeasured_cause}
+use Rattle.jx_transcode.proofs.FiledLemmas.{begun_halted, file_unmeasured, nothing_begun, on_ok_any, unmeasured_cause}
 use Rattle.jx_transcode.proofs.file.write_once.Goals as goal
 
 pub returns-in-Err-clause-err : goal.returns-in-Err-clause-err
@@ -12,3 +13,24 @@ returns-in-Err-clause-cause g c = unmeasured_cause c.args.making.now c.in-Err.ha
 
 pub returns-in-Err-clause-rose : goal.returns-in-Err-clause-rose
 returns-in-Err-clause-rose g c = λ rose. absurd (omega (arith, rose))
+
+pub returns-in-Ok-indexed_head-clause-err : goal.returns-in-Ok-indexed_head-clause-err
+returns-in-Ok-indexed_head-clause-err g c = begun_halted c.write_whole.result c.args.making.now c.args.to.now _ _ c.write_whole.ensures.err c.write_whole.ensures.fault
+
+pub returns-in-Ok-indexed_head-clause-tape : goal.returns-in-Ok-indexed_head-clause-tape
+returns-in-Ok-indexed_head-clause-tape g c = c.held_parts.ensures.tape
+
+pub returns-in-Ok-indexed_head-clause-whole : goal.returns-in-Ok-indexed_head-clause-whole
+returns-in-Ok-indexed_head-clause-whole g c = on_ok_any c.write_whole.result _ c.in-Ok.ensures.whole
+
+pub returns-in-Ok-indexed_head-clause-taped : goal.returns-in-Ok-indexed_head-clause-taped
+returns-in-Ok-indexed_head-clause-taped g c = IfErr-weaker c.write_whole.result _ _ (λ h fault. whole_taped c.args.making.now _ h c.requires.plan fault c.in-Ok.ensures.whole) c.write_whole.ensures.fault
+
+pub returns-clause-err : goal.returns-clause-err
+returns-clause-err g c = nothing_begun c.args.making.now c.args.to.now (g.F.Files.meaning c.args.files.now)
+
+pub returns-clause-tape : goal.returns-clause-tape
+returns-clause-tape g c = c.held_parts.ensures.tape
+
+pub returns-clause-taped : goal.returns-clause-taped
+returns-clause-taped g c = whole_taped c.args.making.now _ halt.NoMemory c.requires.plan tt c.in-Ok.ensures.whole
