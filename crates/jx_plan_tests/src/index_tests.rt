@@ -27,7 +27,10 @@ fn is_index(
 // A segment has room for 10,921 tile-parts.
 #[test]
 fn one_tile_part(rt: HostRuntime) -> Result<(), Fail> {
-    let one = [PartLength { tile: 0, length: 100 }];
+    let one = [PartLength {
+        tile: 0,
+        length: 100,
+    }];
     let all = "FF55 000A 00 60 0000 00000064";
     equal(&rt, is_index(rt.alloc(), &one, 12, all, all), Some(true));
     equal(&rt, is_index(rt.alloc(), &[], 0, "", ""), Some(true));
@@ -36,9 +39,16 @@ fn one_tile_part(rt: HostRuntime) -> Result<(), Fail> {
 
 #[test]
 fn two_segments(rt: HostRuntime) -> Result<(), Fail> {
-    let many = [PartLength { tile: 258, length: 65_537 }; 10_922];
+    let many = [PartLength {
+        tile: 258,
+        length: 65_537,
+    }; 10_922];
     let first = "FF55 FFFA 00 60 0102 00010001 0102 00010001";
     let last = "0102 00010001 FF55 000A 01 60 0102 00010001";
-    equal(&rt, is_index(rt.alloc(), &many, 65_544, first, last), Some(true));
+    equal(
+        &rt,
+        is_index(rt.alloc(), &many, 65_544, first, last),
+        Some(true),
+    );
     Ok(())
 }

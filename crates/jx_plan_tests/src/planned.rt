@@ -141,7 +141,10 @@ fn planner(alloc: Global, which: u8) -> Result<Box<dyn LayerPlanner>, NoMemory> 
 }
 
 /// Planners by their numbers.
-pub(crate) fn planners(alloc: Global, order: &[u8]) -> Result<Vec<Box<dyn LayerPlanner>>, NoMemory> {
+pub(crate) fn planners(
+    alloc: Global,
+    order: &[u8],
+) -> Result<Vec<Box<dyn LayerPlanner>>, NoMemory> {
     let mut list = Vec::new(alloc);
     for which in order {
         let planner = planner(alloc, *which)?;
