@@ -18,6 +18,8 @@ mod plan_tests;
 #[cfg(test)]
 mod planned;
 #[cfg(test)]
+mod profile_tests;
+#[cfg(test)]
 mod values;
 #[cfg(test)]
 mod words_tests;

@@ -1,6 +1,7 @@
 //! Two codings of a block that are compared in one walk, against both decoded.
 
-ghost use Rattle.std.specs.Prelude.{◌≤◌, ◌<◌, IfOk};
+ghost use Rattle.std.specs.Prelude.{◌≡◌, ◌≤◌, ◌<◌, IfOk};
+ghost use Rattle.jx_base.specs.declared.names.Band.TheVariants.{HL};
 ghost use Rattle.jx_tier1_specs.specs.Cells.{HasSize};
 ghost use Rattle.jx_tier1_specs.specs.Short.{AreShort};
 
@@ -29,7 +30,13 @@ fn are_equal(a: &FlagGrid, b: &FlagGrid, width: u16, height: u16) -> bool
 }
 
 /// The coded passes of nine planes of a block.
-fn coded<'a>(style: Style, passes: u16, segments: Segments<'a>) -> Coded<'a> {
+fn coded<'a>(style: Style, passes: u16, segments: Segments<'a>) -> Coded<'a>
+    ensures band { result.band ≡ HL }
+    ensures style { result.style.bits ≡ style.bits }
+    ensures planes { result.planes ≡ 9 }
+    ensures passes { result.passes ≡ passes }
+    ensures segments { result.segments ≡ segments.entry }
+{
     Coded {
         band: Band::HL,
         style,
