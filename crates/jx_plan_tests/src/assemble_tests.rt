@@ -224,7 +224,6 @@ fn is_kept_of(
     if stream.tile_count() != 1 {
         return None;
     }
-    // The one that keeps layers.
     match planners(alloc, &[0]) {
         Ok(mut planners) => is_planned(alloc, stream, blocks, options, &mut planners, row),
         Err(_) => None,
