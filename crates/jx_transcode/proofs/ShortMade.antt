@@ -317,6 +317,8 @@ made_short laws w h size rule blocks names sizes plain sound order =
     λ r below.
     (light laws w h size 0 r written sizes fine (omega arith) below, (light laws w h size 1 r written sizes fine (omega arith) below, (light laws w h size 2 r written sizes fine (omega arith) below, tt))) in
     subst (λ (gs : List (List PacketName)). AreShort (tile_parts marks s written 0 gs)) (sym is)
-    (parts_short (length s.siz.comps) 0 (header_of s 0) (packets_of marks s 0 written) 0 6 0 (three 0 ∷ three 1 ∷ three 2 ∷ three 3 ∷ three 4 ∷ three 5 ∷ []) (own_header w h size)
-    (omega arith, all 0 (omega arith),
-    (omega arith, all 1 (omega arith), (omega arith, all 2 (omega arith), (omega arith, all 3 (omega arith), (omega arith, all 4 (omega arith), (omega arith, all 5 (omega arith), tt)))))))
+    (parts_short (length s.siz.comps) 0 (header_of s 0) (packets_of marks s 0 written) 0 6 0 (three 0 ∷ three 1 ∷ three 2 ∷ three 3 ∷ three 4 ∷ three 5 ∷ []) (own_header w h size) (
+      omega arith,
+      all 0 (omega arith),
+      (omega arith, all 1 (omega arith), (omega arith, all 2 (omega arith), (omega arith, all 3 (omega arith), (omega arith, all 4 (omega arith), (omega arith, all 5 (omega arith), tt))))),
+    ))
