@@ -29,16 +29,6 @@ impl<'a, 'p> Model for Making<'a, 'p> {
     ghost invariant = { λ m. m.written.now ≡ record { siz = (headers_of m.plan.now).siz; main = (headers_of m.plan.now).main } };
 }
 
-/// So many jobs from one on.
-fn part_of<'a>(jobs: &'a [Job<'a>], first: u32, count: u32) -> &'a [Job<'a>]
-    requires { first + count ≤ length jobs.now }
-    ensures value { result.now ≡ take count (drop first jobs.entry.now) }
-    ensures count { length result.now ≡ count }
-{
-    let from = first as usize;
-    &jobs[from..from + count as usize]
-}
-
 impl<'a, 'p> Making<'a, 'p> {
     pub fn new(plan: &'a OutStream<'p>, written: &'a MainView<'a>) -> Making<'a, 'p>
         requires written { written.now ≡ record { siz = (headers_of plan.now).siz; main = (headers_of plan.now).main } }
@@ -79,7 +69,8 @@ impl<'a, 'p> Making<'a, 'p> {
         ensures count { length result.now ≡ count }
         ensures plan { IsPlan self.now }
     {
-        part_of(self.jobs(), first, count)
+        let from = first as usize;
+        &self.jobs()[from..from + count as usize]
     }
 
     /// How many tiles the picture has, at most 65,535.
