@@ -34,5 +34,4 @@ mod BoxesVerdictLemmas
 pub mod RunLemmas
 mod AcceptedLemmas
 mod PlannedMade
-mod ShortMade
 mod MadeVerdictLemmas
