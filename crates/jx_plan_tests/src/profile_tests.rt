@@ -2,6 +2,7 @@
 
 use crate::checks::equal;
 use crate::hex::bytes_of;
+use jx_codestream::laws::read_is_in_range;
 use jx_codestream::read_stream;
 use jx_options::{Marks, PartChoice};
 use jx_plan::first_unmet;
@@ -26,6 +27,7 @@ fn changed(alloc: Global, change: (usize, u8)) -> Option<Vec<u8>> {
 
 // The first condition that its headers don't meet; 99 where the file is refused.
 fn unmet(alloc: Global, change: (usize, u8), parts: PartChoice, tlm: bool) -> Option<u32> {
+    read_is_in_range();
     let bytes = changed(alloc, change)?;
     if bytes.len() > 1 << 28 {
         return Some(99);
