@@ -1,6 +1,7 @@
 -- Definitions that several crates cite.
 pub mod Bands
 pub mod Joined
+pub mod Limits
 pub mod Markers
 pub mod Numbers
 pub mod OrderNumbers

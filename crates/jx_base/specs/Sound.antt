@@ -1,9 +1,10 @@
 -- The code-blocks that can be recoded or kept.
-use Rattle.std.specs.Prelude.{◌-◌, ◌*◌, ◌^◌, ◌≤◌}
+use Rattle.std.specs.Prelude.{◌-◌, ◌*◌, ◌≤◌}
 use Rattle.jx_base.specs.declared.names.Rect.{Rect}
 use Rattle.jx_base.specs.declared.pieces.Block.{Block}
 use Rattle.jx_base.specs.Places.{length_of}
 use Rattle.jx_base.specs.Pieces.{ArePieces, bytes_in}
+use Rattle.jx_base.specs.Limits.{most_bytes}
 
 -- A.6.1, Table A.18: sides of 1 to 1,024 and at most 4,096 places
 pub record HasBlockSize (r : Rect) : Type 0 where
@@ -22,4 +23,4 @@ pub record IsSound (b : Block) : Type 0 where
   pub zero : b.zero ≤ b.planes
   pub few : b.passes ≤ 3 * (b.planes - b.zero) - 2
   pub pieces : ArePieces b.style.bits 0 0 b.passes b.pieces
-  pub bytes : bytes_in b.pieces ≤ 2 ^ 28
+  pub bytes : bytes_in b.pieces ≤ most_bytes

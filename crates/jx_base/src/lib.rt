@@ -1,12 +1,14 @@
 //! What every crate of the transcoder shares: want of memory, numbers, names.
 #![tactic(auto)]
 
+mod limits;
 mod memory;
 mod names;
 mod numbers;
 mod pieces;
 mod style;
 
+pub use limits::{MOST_BLOCKS, MOST_BYTES};
 pub use memory::NoMemory;
 pub use names::{Band, BlockName, Rect, Span};
 pub use numbers::{ceil_div, ceil_shift};

@@ -1,5 +1,5 @@
 -- The parts of a block that is coded anew: within its bytes, again pieces of a sound block, and with its new segments.
-use Rattle.std.proofs.Common.{◌≡◌, ℕ, ◌-◌, ◌<◌, ◌≤◌, ◌^◌, ◌==◌, List, inl, inr, ◌∙◌, ap, sym, subst, refl, arith, length, Some}
+use Rattle.std.proofs.Common.{◌≡◌, ℕ, ◌-◌, ◌<◌, ◌≤◌, ◌==◌, List, inl, inr, ◌∙◌, ap, sym, subst, refl, arith, length, Some}
 use Rattle.std.specs.List.{All, concat}
 use Rattle.std.proofs.lemmas.Bool.{cases_eq, or_left, or_right}
 use Rattle.std.proofs.lemmas.List.Concat.{length-flat_map, concat_is}
@@ -22,6 +22,7 @@ use Rattle.jx_codeblock.proofs.SentLemmas.{all_before}
 use Rattle.jx_codeblock.proofs.SoundLemmas.{Clean, looks_clean, parts_sound}
 use Rattle.jx_codeblock.proofs.WithinLemmas.{Rises, looks_all, looks_cut, looks_rise, parts_within}
 use Rattle.jx_codeblock.proofs.WrittenLemmas.{none_written, written_clean, written_long}
+use Rattle.jx_base.specs.Limits.{most_bytes}
 
 pub all_bytes : (ss : List (List ℕ)) → length (concat ss) ≡ bytes_before ss (length ss)
 all_bytes ss = (ap (λ (xs : List ℕ). length xs) (concat_is ss) ∙ length-flat_map (λ (xs : List ℕ). xs) ss) ∙ sym (all_before ss)
@@ -91,5 +92,5 @@ anew_segments b style ends r asked e =
     ∙ regroup style.bits b.passes (anew b style) (sent_in b (Some style) ends (anew b style)) (anew_sends b style ends) 0 (recoded_pieces r) sound (anew_have b style ends r e)
     (none_written (coding_in b style.bits) (decoded_in b b.style.bits (own_segments b)).cells b.passes)
 
-pub few_before : (lists ss : List (List ℕ)) → ss ≡ lists → length (concat lists) ≤ 2 ^ 28 → bytes_before ss (length ss) ≤ 2 ^ 28
-few_before lists ss e le = subst (λ (s : List (List ℕ)). bytes_before s (length s) ≤ 2 ^ 28) (sym e) (omega (arith, all_bytes lists))
+pub few_before : (lists ss : List (List ℕ)) → ss ≡ lists → length (concat lists) ≤ most_bytes → bytes_before ss (length ss) ≤ most_bytes
+few_before lists ss e le = subst (λ (s : List (List ℕ)). bytes_before s (length s) ≤ most_bytes) (sym e) (omega (arith, all_bytes lists))

@@ -28,6 +28,7 @@ use Rattle.jx_codeblock.proofs.LookedLemmas.{looked_few}
 use Rattle.jx_codeblock.proofs.PartLemmas.{parts_everywhere, parts_at_cuts}
 use Rattle.jx_codeblock.proofs.RoomLemmas.{listed_at}
 use Rattle.jx_codeblock.proofs.SentLemmas.{table_at, same_at_cuts, groups_total, all_before}
+use Rattle.jx_base.specs.Limits.{most_bytes}
 
 -- what the decoder looked at in a block's own segments
 abbrev pub own_looked : Block → List ℕ
@@ -74,17 +75,17 @@ listed_table f style passes ends table are e =
     (λ (n : ℕ) le. ap (λ (l : List ℕ). get_or l n 0) e ∙ listed_at f 0 (passes + 1) n (omega arith) ∙ ap f (omega arith))
 
 -- ---- segments have no more bytes than their block
-all_short : (ss : List (List ℕ)) → sum_by (λ (t : List ℕ). length t) ss ≤ 2 ^ 28 → AreShort ss
+all_short : (ss : List (List ℕ)) → sum_by (λ (t : List ℕ). length t) ss ≤ most_bytes → AreShort ss
 all_short [] le = All-nil (λ (s : List ℕ). length s < 2 ^ 32)
 all_short (s ∷ ss) le =
     let e : sum_by (λ (t : List ℕ). length t) (s ∷ ss) ≡ length s + sum_by (λ (t : List ℕ). length t) ss = sum_by-cons (λ (t : List ℕ). length t) s ss in
     All-cons (λ (t : List ℕ). length t < 2 ^ 32) s ss (omega arith) (all_short ss (omega arith))
 
-pub groups_short : (style : ℕ) (ps : List PieceValue) → bytes_in ps ≤ 2 ^ 28 → AreShort (groups style ps)
+pub groups_short : (style : ℕ) (ps : List PieceValue) → bytes_in ps ≤ most_bytes → AreShort (groups style ps)
 groups_short style ps le = all_short (groups style ps) (omega (arith, groups_total style ps))
 
-pub groups_few : (style : ℕ) (ps : List PieceValue) (slices : List (Bor (List ℕ))) → map bytes_of slices ≡ groups style ps → bytes_in ps ≤ 2 ^ 28
-    → bytes_before (map bytes_of slices) (length slices) ≤ 2 ^ 28
+pub groups_few : (style : ℕ) (ps : List PieceValue) (slices : List (Bor (List ℕ))) → map bytes_of slices ≡ groups style ps → bytes_in ps ≤ most_bytes
+    → bytes_before (map bytes_of slices) (length slices) ≤ most_bytes
 groups_few style ps slices e le =
     let l : length (map bytes_of slices) ≡ length slices = length-map slices bytes_of in
     let whole : bytes_before (map bytes_of slices) (length (map bytes_of slices)) ≡ sum_by (λ (t : List ℕ). length t) (map bytes_of slices) = all_before (map bytes_of slices) in
@@ -102,14 +103,14 @@ slice_few b ps sound e =
     let P : List PieceValue → Type 0 = λ qs. ArePieces b.style.bits 0 0 b.passes qs in
     pieces_few b.style.bits 0 0 b.passes ps (subst P (sym e) sound.pieces) (omega (arith, sound.few, sound.planes))
 
-pub joined_long : (b : Block) (ps : List Piece) (whole : List ℕ) → IsSound b → map value_of ps ≡ b.pieces → whole ≡ bytes_joined (map value_of ps) → length whole ≤ 2 ^ 28
+pub joined_long : (b : Block) (ps : List Piece) (whole : List ℕ) → IsSound b → map value_of ps ≡ b.pieces → whole ≡ bytes_joined (map value_of ps) → length whole ≤ most_bytes
 joined_long b ps whole sound e f =
     let g : whole ≡ bytes_joined b.pieces = f ∙ ap bytes_joined e in
     let l : length whole ≡ bytes_in b.pieces = ap (λ (xs : List ℕ). length xs) g ∙ length-flat_map (λ (p : PieceValue). p.bytes) b.pieces in
     omega (arith, sound.bytes)
 
 -- ---- the same of any segments
-pub groups_most : (style : ℕ) (ps : List PieceValue) (ss : List (List ℕ)) → ss ≡ groups style ps → bytes_in ps ≤ 2 ^ 28 → bytes_before ss (length ss) ≤ 2 ^ 28
+pub groups_most : (style : ℕ) (ps : List PieceValue) (ss : List (List ℕ)) → ss ≡ groups style ps → bytes_in ps ≤ most_bytes → bytes_before ss (length ss) ≤ most_bytes
 groups_most style ps ss e le =
     let sum : sum_by (λ (t : List ℕ). length t) ss ≡ bytes_in ps = ap (sum_by (λ (t : List ℕ). length t)) e ∙ groups_total style ps in
     omega (arith, all_before ss)

@@ -1,5 +1,5 @@
 -- How many bytes a block has that is coded anew.
-use Rattle.std.proofs.Common.{◌≡◌, ℕ, zero, suc, ◌+◌, ◌*◌, ◌%◌, ◌^◌, ◌≤◌, ◌==◌, ◌&&◌, ◌||◌, not, nat_le, Bool, true, false, List, [], ◌∷◌, ◌++◌, inl, inr, ap, sym, ◌∙◌, subst, refl, arith, length, length-append, Some, if◌then◌else◌}
+use Rattle.std.proofs.Common.{◌≡◌, ℕ, zero, suc, ◌+◌, ◌*◌, ◌%◌, ◌≤◌, ◌==◌, ◌&&◌, ◌||◌, not, nat_le, Bool, true, false, List, [], ◌∷◌, ◌++◌, inl, inr, ap, sym, ◌∙◌, subst, refl, arith, length, length-append, Some, if◌then◌else◌}
 use Rattle.std.specs.List.{concat}
 use Rattle.std.proofs.lemmas.Bool.{cases_Bool, cases_eq, cond-true, cond-false}
 use Rattle.jx_base.specs.declared.pieces.Block.{Block}
@@ -23,6 +23,7 @@ use Rattle.jx_codeblock.proofs.AnewLemmas.{anew, is_anew}
 use Rattle.jx_codeblock.proofs.CoefLemmas.{own_cells_size}
 use Rattle.jx_codeblock.proofs.FewLemmas.{AllFew, needs_few}
 use Rattle.jx_codeblock.proofs.WrittenLemmas.{needs_long, none_written}
+use Rattle.jx_base.specs.Limits.{most_bytes}
 
 -- ---- a segment
 bits_long : (given : List MqGiven) → length (mq_bits given) ≤ length given
@@ -141,7 +142,7 @@ anew_cost b style sound = elim (cases_eq b.passes 0) [
     positive zero ne = absurd (ne refl)
     positive (suc n) ne = omega arith
 
-pub anew_few : (b : Block) (style : Style) → IsSound b → length (concat (anew b style)) ≤ 2 ^ 28
+pub anew_few : (b : Block) (style : Style) → IsSound b → length (concat (anew b style)) ≤ most_bytes
 anew_few b style sound =
     let each = anew_cost b style sound in
     let most = sevenths_six (bypasses style.bits) 0 b.passes in
@@ -157,5 +158,5 @@ anew_short b style sound bypass few =
     let all = sevenths_37 in
     omega arith
 
-pub anew_bytes : (b : Block) (style : Style) (ends : List LayerEnd) (r : Recoding) → IsAsked b (Some style) ends → Some r ≡ recoding b (Some style) ends → length r.bytes ≤ 2 ^ 28
-anew_bytes b style ends r asked e = subst (λ (q : Recoding). length q.bytes ≤ 2 ^ 28) (sym (is_anew b style ends r e).is) (anew_few b style asked.sound)
+pub anew_bytes : (b : Block) (style : Style) (ends : List LayerEnd) (r : Recoding) → IsAsked b (Some style) ends → Some r ≡ recoding b (Some style) ends → length r.bytes ≤ most_bytes
+anew_bytes b style ends r asked e = subst (λ (q : Recoding). length q.bytes ≤ most_bytes) (sym (is_anew b style ends r e).is) (anew_few b style asked.sound)

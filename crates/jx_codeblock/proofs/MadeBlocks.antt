@@ -1,5 +1,5 @@
 -- A block with what was made of it: sound, with its coefficients, and with its passes in the layers that were asked.
-use Rattle.std.proofs.Common.{◌≡◌, ℕ, ◌≤◌, ◌^◌, ◌==◌, true, false, List, [], inl, inr, ◌∙◌, ap, sym, subst, refl, arith, length, ◌&&◌, Option, Some, None, is_some}
+use Rattle.std.proofs.Common.{◌≡◌, ℕ, ◌≤◌, ◌==◌, true, false, List, [], inl, inr, ◌∙◌, ap, sym, subst, refl, arith, length, ◌&&◌, Option, Some, None, is_some}
 use Rattle.std.specs.List.{All, concat}
 use Rattle.std.proofs.lemmas.Bool.{and_parts, cases_Bool, cond-true, cond-false, eq-eqb, eqb-true, true≢false}
 use Rattle.std.proofs.lemmas.List.Concat.{length-flat_map}
@@ -26,6 +26,7 @@ use Rattle.jx_codeblock.proofs.LengthLemmas.{anew_few, anew_short}
 use Rattle.jx_codeblock.proofs.MadeJobs.{all_sound}
 use Rattle.jx_codeblock.proofs.RegroupLemmas.{kept_segments}
 use Rattle.jx_codeblock.proofs.ShareLemmas.{ends_all, parts_all, parts_cut, parts_end, same_shares}
+use Rattle.jx_base.specs.Limits.{most_bytes}
 
 -- ---- what is made of a block, by its segments
 pub record IsFrom (b : Block) (style : Option Style) (ends : List LayerEnd) (r : Recoding) : Type 0 where
@@ -70,12 +71,12 @@ bytes_together style passes ps are =
     ∙ length-flat_map (λ (p : PieceValue). p.bytes) ps
 
 segments_few : (b : Block) (style : Option Style) (ends : List LayerEnd) (r : Recoding) → IsAsked b style ends → Some r ≡ recoding b style ends
-    → length (concat (segments_of (new_style b style) b.passes (recoded_pieces r))) ≤ 2 ^ 28
+    → length (concat (segments_of (new_style b style) b.passes (recoded_pieces r))) ≤ most_bytes
 segments_few b None ends r asked e =
     let own : length (concat (own_segments b)) ≡ bytes_in b.pieces = bytes_together b.style.bits b.passes b.pieces asked.sound.pieces in
-    subst (λ (ss : List (List ℕ)). length (concat ss) ≤ 2 ^ 28) (sym (kept_segments b ends r asked e)) (omega (arith, asked.sound.bytes))
+    subst (λ (ss : List (List ℕ)). length (concat ss) ≤ most_bytes) (sym (kept_segments b ends r asked e)) (omega (arith, asked.sound.bytes))
 segments_few b (Some style) ends r asked e =
-    subst (λ (ss : List (List ℕ)). length (concat ss) ≤ 2 ^ 28) (sym (anew_segments b style ends r asked e)) (anew_few b style asked.sound)
+    subst (λ (ss : List (List ℕ)). length (concat ss) ≤ most_bytes) (sym (anew_segments b style ends r asked e)) (anew_few b style asked.sound)
 
 pub made_sound : (b : Block) (style : Option Style) (ends : List LayerEnd) (r : Recoding) → IsAsked b style ends → Some r ≡ recoding b style ends → IsSound (block_with b (Some r))
 made_sound b style ends r asked e =

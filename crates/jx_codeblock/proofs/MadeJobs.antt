@@ -1,5 +1,5 @@
 -- What is known of a job and of what it was made into.
-use Rattle.std.proofs.Common.{◌≡◌, ◌+◌, ◌<◌, ◌≤◌, ◌^◌, ◌∙◌, ℕ, ap, sym, subst, refl, arith, length, List, [], ◌∷◌, Option, Some, None}
+use Rattle.std.proofs.Common.{◌≡◌, ◌+◌, ◌<◌, ◌≤◌, ◌∙◌, ℕ, ap, sym, subst, refl, arith, length, List, [], ◌∷◌, Option, Some, None}
 use Rattle.std.specs.List.{All, concat}
 use Rattle.std.proofs.lemmas.List.Concat.{length-flat_map}
 use Rattle.jx_base.specs.Pieces.{ArePieces, PieceValue, bytes_in}
@@ -24,6 +24,7 @@ use Rattle.jx_codeblock.proofs.PartLemmas.{ends_within}
 use Rattle.jx_codeblock.proofs.SoundLemmas.{kept_sound}
 use Rattle.jx_codeblock.proofs.StartLemmas.{no_starts}
 use Rattle.jx_codeblock.proofs.WrittenLemmas.{none_written}
+use Rattle.jx_base.specs.Limits.{most_bytes}
 
 -- ---- in any style or none
 pub all_within : (b : Block) (style : Option Style) (ends : List LayerEnd) (r : Recoding) → IsAsked b style ends → Some r ≡ recoding b style ends → All (IsWithin (length r.bytes)) r.parts
@@ -35,7 +36,7 @@ pub all_sound : (b : Block) (style : Option Style) (ends : List LayerEnd) (r : R
 all_sound b None ends r asked e = kept_sound b ends r asked e
 all_sound b (Some style) ends r asked e = anew_sound b style ends r asked e
 
-by_few : (b : Block) (style : Option Style) (new : List ℕ) → IsSound b → length new ≤ 2 ^ 28 → length (bytes_by b style new) ≤ 2 ^ 28
+by_few : (b : Block) (style : Option Style) (new : List ℕ) → IsSound b → length new ≤ most_bytes → length (bytes_by b style new) ≤ most_bytes
 by_few b None new sound le =
     let l : length (concat (own_segments b)) ≡ bytes_in b.pieces = ap (λ (xs : List ℕ). length xs) (own_bytes b sound) ∙ length-flat_map (λ (p : PieceValue). p.bytes) b.pieces in
     omega (arith, sound.bytes)
@@ -49,7 +50,7 @@ pub job_sound : (j : Job) (new starts : List ℕ) (parts : List LayerPart) → I
     → ArePieces (made_recoding j new parts).style 0 0 j.block.now.passes (recoded_pieces (made_recoding j new parts))
 job_sound j new starts parts h = all_sound j.block.now j.style j.ends (made_recoding j new parts) h.asked h.is
 
-pub job_few : (j : Job) (new starts : List ℕ) (parts : List LayerPart) → IsMade j new starts parts → length (made_recoding j new parts).bytes ≤ 2 ^ 28
+pub job_few : (j : Job) (new starts : List ℕ) (parts : List LayerPart) → IsMade j new starts parts → length (made_recoding j new parts).bytes ≤ most_bytes
 job_few j new starts parts h = by_few j.block.now j.style new h.asked.sound h.few
 
 -- ---- the bytes that a job's parts are of
@@ -99,7 +100,7 @@ anew_made j style ends lists again new starts parts asked s right same is was e 
     let parts_are : parts ≡ layer_parts_after style.bits (sent_in j.block.now (Some style) j.ends (anew j.block.now style)) 0 j.ends = f ∙ rw (same, was) refl in
     record {
       asked = asked;
-      few = subst (λ (bs : List ℕ). length bs ≤ 2 ^ 28) (sym bytes) (anew_few j.block.now style asked.sound);
+      few = subst (λ (bs : List ℕ). length bs ≤ most_bytes) (sym bytes) (anew_few j.block.now style asked.sound);
       begins = no_starts j.block.now.pieces starts none;
       is = made_by j style new parts s right bytes parts_are;
     }

@@ -1,5 +1,5 @@
 -- The bytes of a part lie within those of its block.
-use Rattle.std.proofs.Common.{◌≡◌, ℕ, zero, suc, ◌+◌, ◌-◌, ◌<◌, ◌≤◌, ◌^◌, true, false, List, [], ◌∷◌, ◌++◌, ◌∙◌, ap, sym, refl, arith, length, take, map, get_or, Bor, append-nil}
+use Rattle.std.proofs.Common.{◌≡◌, ℕ, zero, suc, ◌+◌, ◌-◌, ◌<◌, ◌≤◌, true, false, List, [], ◌∷◌, ◌++◌, ◌∙◌, ap, sym, refl, arith, length, take, map, get_or, Bor, append-nil}
 use Rattle.std.specs.List.{range_with_len}
 use Rattle.std.proofs.lemmas.List.{length-map}
 use Rattle.std.proofs.lemmas.List.Sums.{sum_by-cons}
@@ -9,6 +9,7 @@ use Rattle.jx_tier1_specs.specs.Segments.{bytes_of}
 use Rattle.jx_codeblock.specs.Segments.{ends_below, bytes_before}
 use Rattle.jx_codeblock.specs.Tables.{AreFew}
 use Rattle.jx_codeblock.proofs.EndLemmas.{below_ended, below_still, below_few}
+use Rattle.jx_base.specs.Limits.{most_bytes}
 
 before_nil : (k : ℕ) → bytes_before [] k ≡ 0
 before_nil zero = refl
@@ -31,8 +32,8 @@ before_most (s ∷ ss) (suc k) =
     omega (arith, before_most ss k, sum_by-cons (λ (t : List ℕ). length t) s (take k ss), sum_by-cons (λ (t : List ℕ). length t) s (take (length ss) ss))
 
 -- what was looked at lies within the bytes up to the end of its segment
-pub few_bytes : (style passes at before : ℕ) (ss : List (List ℕ)) (looked : List ℕ) → AreFew style ss looked → bytes_before ss (length ss) ≤ 2 ^ 28
-    → before ≡ bytes_before ss at → at ≡ ends_below style (passes + 1) → end_pass style passes ≡ false → before + get_or looked passes 0 ≤ 2 ^ 28
+pub few_bytes : (style passes at before : ℕ) (ss : List (List ℕ)) (looked : List ℕ) → AreFew style ss looked → bytes_before ss (length ss) ≤ most_bytes
+    → before ≡ bytes_before ss at → at ≡ ends_below style (passes + 1) → end_pass style passes ≡ false → before + get_or looked passes 0 ≤ most_bytes
 few_bytes style passes at before ss looked few most b a flat =
     let still : ends_below style (passes + 1) ≡ ends_below style passes = below_still style passes flat in
     let here : get_or looked passes 0 ≤ length (get_or ss (ends_below style passes) []) = few passes in
@@ -51,12 +52,12 @@ next_still style pass at a e = omega (arith, below_still style pass e)
 pub next_most : (style pass at : ℕ) → at ≡ ends_below style pass → at ≤ pass
 next_most style pass at a = omega (arith, below_few style pass)
 
-pub next_bytes : (at before : ℕ) (slices : List (Bor (List ℕ))) → before ≡ bytes_before (map bytes_of slices) at → bytes_before (map bytes_of slices) (length slices) ≤ 2 ^ 28
-    → before + length (get_or (map bytes_of slices) at []) ≤ 2 ^ 28
+pub next_bytes : (at before : ℕ) (slices : List (Bor (List ℕ))) → before ≡ bytes_before (map bytes_of slices) at → bytes_before (map bytes_of slices) (length slices) ≤ most_bytes
+    → before + length (get_or (map bytes_of slices) at []) ≤ most_bytes
 next_bytes at before slices b most =
     let ss : List (List ℕ) = map bytes_of slices in
     let l : length ss ≡ length slices = length-map slices bytes_of in
-    let most' : bytes_before ss (length ss) ≤ 2 ^ 28 = rw l most in
+    let most' : bytes_before ss (length ss) ≤ most_bytes = rw l most in
     omega (arith, before_more ss at, before_most ss (at + 1))
 
 -- a list of numbers one after another

@@ -1,5 +1,5 @@
 -- A block as it is written, with the job that it was made of.
-use Rattle.std.specs.Prelude.{◌≡◌, ◌≤◌, ◌^◌, ℕ, Bool, ◌&&◌, List, [], length, Option, Some, None, is_some, is_none}
+use Rattle.std.specs.Prelude.{◌≡◌, ◌≤◌, ℕ, Bool, ◌&&◌, List, [], length, Option, Some, None, is_some, is_none}
 use Rattle.std.specs.List.{concat}
 use Rattle.jx_base.specs.declared.pieces.Block.{Block}
 use Rattle.jx_base.specs.declared.style.Style.{Style}
@@ -10,6 +10,7 @@ use Rattle.jx_codeblock.specs.declared.LayerPart.{LayerPart}
 use Rattle.jx_codeblock.specs.Recoding.{Recoding, recoding, own_segments, new_style}
 use Rattle.jx_codeblock.specs.Jobs.{IsAsked}
 use Rattle.jx_codeblock.specs.Starts.{AreStarts}
+use Rattle.jx_base.specs.Limits.{most_bytes}
 
 pub record WrittenBlock : Type 0 where
   pub job : Job
@@ -51,6 +52,6 @@ pub record MadeLists : Type 0 where
 -- the job is a valid one, and these are its new bytes, where its pieces begin, and its parts
 pub record IsMade (j : Job) (new starts : List ℕ) (parts : List LayerPart) : Type 0 where
   pub asked : IsAsked j.block.now j.style j.ends
-  pub few : length new ≤ 2 ^ 28
+  pub few : length new ≤ most_bytes
   pub begins : AreStarts j.block.now.pieces starts
   pub is : Some (made_recoding j new parts) ≡ recoding_in j

@@ -1,6 +1,6 @@
 //! A block that is coded anew: its coefficients, their segments in another style, and the parts of these.
 
-ghost use Rattle.std.specs.Prelude.{◌≡◌, ◌≢◌, ◌≤◌, ◌^◌, true, length, map, None, Some, IfOk, IfErr};
+ghost use Rattle.std.specs.Prelude.{◌≡◌, ◌≢◌, ◌≤◌, true, length, map, None, Some, IfOk, IfErr};
 ghost use Rattle.std.specs.List.{concat};
 ghost use Rattle.jx_base.specs.Sound.{IsSound};
 ghost use Rattle.jx_tier1_specs.specs.Cells.{HasSize};
@@ -9,6 +9,7 @@ ghost use Rattle.jx_codeblock.specs.Recoded.{HasCause};
 ghost use Rattle.jx_codeblock.specs.Recoding.{layer_parts_after, sent_in, own_segments, decoded_in, wrong_in};
 ghost use Rattle.jx_codeblock.specs.Segments.{bytes_before};
 ghost use Rattle.jx_codeblock.specs.Tables.{are_cut};
+ghost use Rattle.jx_base.specs.Limits.{most_bytes};
 
 use crate::looks::{looked_in, own_decoded};
 use crate::own::{all_cut, last_within};
@@ -69,7 +70,7 @@ fn parts_by_ends(
     requires sound { IsSound block.now }
     requires ends { AreEnds 0 0 block.now.passes ends.now }
     requires cut { are_cut style.bits block.now.passes ends.now ≡ true }
-    requires few { bytes_before segments.now (length segments.now) ≤ 2 ^ 28 }
+    requires few { bytes_before segments.now (length segments.now) ≤ most_bytes }
     ensures { IfOk result (λ parts. parts.items ≡ layer_parts_after style.bits (sent_in block.now (Some style) ends.now segments.now) 0 ends.now) }
 {
     let table = by_looks(alloc, style, block.passes, segments.as_slice(), &[])?;
@@ -87,7 +88,7 @@ fn parts_by_looks(
     requires sound { IsSound block.now }
     requires some { 1 ≤ block.now.passes }
     requires ends { AreEnds 0 0 block.now.passes ends.now }
-    requires few { bytes_before segments (length segments) ≤ 2 ^ 28 }
+    requires few { bytes_before segments (length segments) ≤ most_bytes }
     ensures { IfOk result (λ parts. parts.items ≡ layer_parts_after style.bits (sent_in block.now (Some style) ends.now segments.entry) 0 ends.now) }
 {
     let last = last_within(style, block.passes, ends);
@@ -107,7 +108,7 @@ pub(crate) fn parts_of(
     requires sound { IsSound block.now }
     requires some { 1 ≤ block.now.passes }
     requires ends { AreEnds 0 0 block.now.passes ends.now }
-    requires few { length (concat (map (λ l. l.items) lists.now)) ≤ 2 ^ 28 }
+    requires few { length (concat (map (λ l. l.items) lists.now)) ≤ most_bytes }
     ensures { IfOk result (λ parts. parts.items ≡ layer_parts_after style.bits (sent_in block.now (Some style) ends.now (map (λ l. l.items) lists.now)) 0 ends.now) }
 {
     let segments = segments_of(alloc, lists)?;

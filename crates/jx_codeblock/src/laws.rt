@@ -1,6 +1,6 @@
 //! Laws on what becomes of a block, over the definitions alone.
 
-ghost use Rattle.std.specs.Prelude.{◌≡◌, ◌≢◌, ◌≤◌, ◌<◌, ◌^◌, ℕ, true, false, List, [], All, length, Option, Some, None};
+ghost use Rattle.std.specs.Prelude.{◌≡◌, ◌≢◌, ◌≤◌, ◌<◌, ℕ, true, false, List, [], All, length, Option, Some, None};
 ghost use Rattle.jx_base.specs.declared.pieces.Block.{Block};
 ghost use Rattle.jx_base.specs.declared.style.Style.{Style};
 ghost use Rattle.jx_base.specs.Passes.{bypasses};
@@ -15,6 +15,7 @@ ghost use Rattle.jx_codeblock.specs.declared.job.Job.{Job};
 ghost use Rattle.jx_codeblock.specs.Recoding.{Recoding, decoded_in, layer_ends, new_segments, own_segments, recoded_pieces, recoding, wrong_in};
 ghost use Rattle.jx_codeblock.specs.Segments.{segments_of};
 ghost use Rattle.jx_codeblock.specs.Written.{block_with, is_wrong, own_cells, style_for, written_as, written_in};
+ghost use Rattle.jx_base.specs.Limits.{most_bytes};
 
 /// A sound block may be kept in the layers that it has.
 #[tactic(auto, using(crate::proofs::LawLemmas::own_asked))]
@@ -111,10 +112,10 @@ pub fn nothing_of_wrong_symbols()
     ensures wrong { (b : Block) → (style : Style) → (ends : List LayerEnd) → wrong_in b ≢ None → recoding b (Some style) ends ≡ None }
 {}
 
-/// A block that is coded anew has at most 2^28 bytes, as each block of a file.
+/// A block that is coded anew has at most 2^32 - 1 bytes, as each block of a file.
 pub fn new_bytes_are_few()
     ensures { (b : Block) → (style : Style) → (ends : List LayerEnd) → (r : Recoding) → IsAsked b (Some style) ends →
-        Some r ≡ recoding b (Some style) ends → length r.bytes ≤ 2 ^ 28 }
+        Some r ≡ recoding b (Some style) ends → length r.bytes ≤ most_bytes }
 {}
 
 /// With the bypass the pieces of one of at most 37 coding passes, as 13 planes have, have at most 309,123 bytes: 19 passes go through

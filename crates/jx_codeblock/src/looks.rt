@@ -1,6 +1,6 @@
 //! What a block's passes decode to, and how much of its segments the decoder looks at.
 
-ghost use Rattle.std.specs.Prelude.{◌≡◌, ◌≤◌, ◌+◌, ◌-◌, ◌^◌, length, map, IfOk};
+ghost use Rattle.std.specs.Prelude.{◌≡◌, ◌≤◌, ◌+◌, ◌-◌, length, map, IfOk};
 ghost use Rattle.std.specs.List.{range_with_len};
 ghost use Rattle.jx_base.specs.Sound.{IsSound};
 ghost use Rattle.jx_tier1_specs.specs.Short.{AreShort};
@@ -8,6 +8,7 @@ ghost use Rattle.jx_codeblock.specs.Laws.{decoded_first};
 ghost use Rattle.jx_codeblock.specs.Recoding.{own_segments, decoded_in, wrong_in};
 ghost use Rattle.jx_codeblock.specs.Groups.{groups};
 ghost use Rattle.jx_codeblock.specs.Segments.{bytes_before, sent_by_looks};
+ghost use Rattle.jx_base.specs.Limits.{most_bytes};
 
 use crate::segments::{goes_on, joined, segments_apart, segments_in};
 use crate::sent::by_looks;
@@ -80,7 +81,7 @@ pub(crate) fn looked_in(
     requires sound { IsSound block.now }
     requires some { 1 ≤ block.now.passes }
     requires last { last ≤ block.now.passes }
-    requires few { bytes_before segments (length segments) ≤ 2 ^ 28 }
+    requires few { bytes_before segments (length segments) ≤ most_bytes }
     ensures { let segments = segments.entry in
         IfOk result (λ table. table.items ≡ map (sent_by_looks style.bits block.now.passes segments
         (decoded_first block.now style.bits segments last).looked) (range_with_len 0 (block.now.passes + 1))) }

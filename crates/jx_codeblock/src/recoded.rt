@@ -1,6 +1,6 @@
 //! A block as it is written.
 
-ghost use Rattle.std.specs.Prelude.{All, ◌≡◌, ◌≢◌, ◌≤◌, ◌<◌, ◌+◌, ◌++◌, ◌^◌, length, map, vec_len, vec_capacity, None, Some, IfOk, IfErr, OnOk, OnErr};
+ghost use Rattle.std.specs.Prelude.{All, ◌≡◌, ◌≢◌, ◌≤◌, ◌<◌, ◌+◌, ◌++◌, length, map, vec_len, vec_capacity, None, Some, IfOk, IfErr, OnOk, OnErr};
 ghost use Rattle.jx_base.specs.Pieces.{ArePieces};
 ghost use Rattle.jx_base.specs.Sound.{IsSound};
 ghost use Rattle.jx_tier1_specs.specs.Needs.{written};
@@ -9,6 +9,7 @@ ghost use Rattle.jx_codeblock.specs.Laws.{IsWithin};
 ghost use Rattle.jx_codeblock.specs.Recoding.{coding_in, decoded_in, own_segments, layer_part_bytes, recoded_pieces, wrong_in};
 ghost use Rattle.jx_codeblock.specs.Recoded.{recoding_in, is_bad, HasCause};
 ghost use Rattle.jx_codeblock.specs.Written.{block_with, own_cells};
+ghost use Rattle.jx_base.specs.Limits.{most_bytes};
 
 use crate::anew::{all_bytes, own_cells, parts_of as parts_anew};
 use crate::copy::{append_bytes, append_within};
@@ -154,12 +155,12 @@ impl<'a> Recoded<'a> {
         self.job
     }
 
-    /// The parts of the layers, in their order. Their places are those of the block's bytes, at most 2^28,
+    /// The parts of the layers, in their order. Their places are those of the block's bytes, at most 2^32 - 1,
     /// within which they lie. As pieces they are again those of a sound block.
     pub fn parts(&self) -> &[LayerPart]
         ensures value { result.now ≡ self.now.recoding.parts }
         ensures recoding { Some self.now.recoding ≡ recoding_in self.now.job }
-        ensures few { length self.now.recoding.bytes ≤ 2 ^ 28 }
+        ensures few { length self.now.recoding.bytes ≤ most_bytes }
         ensures within { All (IsWithin (length self.now.recoding.bytes)) result.now }
         ensures sound { ArePieces self.now.recoding.style 0 0 self.now.job.block.now.passes (recoded_pieces self.now.recoding) }
     {

@@ -4,6 +4,7 @@ ghost use Rattle.std.specs.Prelude.{◌≡◌, ◌≤◌, ◌<◌, ◌+◌, ◌^
 ghost use Rattle.jx_base.specs.Pieces.{value_of};
 ghost use Rattle.jx_codeblock.specs.Tables.{bytes_joined};
 ghost use Rattle.jx_codeblock.specs.Groups.{ends_it, is_last_of_segment, goes_on, groups};
+ghost use Rattle.jx_base.specs.Limits.{most_bytes};
 
 use jx_base::{NoMemory, Piece, Style, ends_segment};
 use jx_tier1_specs::Segments;
@@ -49,7 +50,7 @@ pub(crate) fn segments_in<'a>(
     whole: &'a [u8],
 ) -> Result<Segments<'a>, NoMemory>
     requires whole { whole.now ≡ bytes_joined (map value_of pieces.now) }
-    requires long { length whole.now ≤ 2 ^ 28 }
+    requires long { length whole.now ≤ most_bytes }
     requires few { All (λ p. p.first + p.passes < 2 ^ 16) pieces.now }
     ensures { IfOk result (λ segments. segments ≡ groups style.bits (map value_of pieces.now)) }
 {

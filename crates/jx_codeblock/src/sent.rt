@@ -6,6 +6,7 @@ ghost use Rattle.std.specs.List.{range_with_len};
 ghost use Rattle.jx_tier1_specs.specs.Segments.{bytes_of};
 ghost use Rattle.jx_codeblock.specs.Segments.{ends_below, bytes_before, less_last_ff, sent_by_looks};
 ghost use Rattle.jx_codeblock.specs.Tables.{rows, AreFew};
+ghost use Rattle.jx_base.specs.Limits.{most_bytes};
 
 use jx_base::{NoMemory, Piece, Style, ends_segment};
 use std::alloc::Global;
@@ -22,7 +23,7 @@ fn repeat(table: &mut Vec<u32>, count: u16, number: u32) -> Result<(), NoMemory>
 
 /// How many bytes are sent by the end of each number of passes, where those are that the pieces have.
 pub(crate) fn by_pieces(alloc: Global, pieces: &[Piece<'_>]) -> Result<Vec<u32>, NoMemory>
-    requires { bytes_in (map value_of pieces.now) ≤ 2 ^ 28 }
+    requires { bytes_in (map value_of pieces.now) ≤ most_bytes }
     ensures { IfOk result (λ table. table.items ≡ 0 ∷ rows 0 (map value_of pieces.now)) }
 {
     let mut table = Vec::with_capacity(alloc, pieces.len() + 1)?;
@@ -82,7 +83,7 @@ fn sent_at(
     requires at { at ≡ ends_below style.bits passes }
     requires before { before ≡ bytes_before (map bytes_of segments.now) at }
     requires few { AreFew style.bits (map bytes_of segments.now) looked.now }
-    requires bytes { bytes_before (map bytes_of segments.now) (length segments.now) ≤ 2 ^ 28 }
+    requires bytes { bytes_before (map bytes_of segments.now) (length segments.now) ≤ most_bytes }
     ensures { result ≡ sent_by_looks style.bits all (map bytes_of segments.now) looked.now passes }
 {
     if passes == all {
@@ -97,7 +98,7 @@ fn sent_at(
 
 /// How many bytes segments have.
 fn all_bytes(segments: &[&[u8]]) -> u32
-    requires { bytes_before (map bytes_of segments.now) (length segments.now) ≤ 2 ^ 28 }
+    requires { bytes_before (map bytes_of segments.now) (length segments.now) ≤ most_bytes }
     ensures { result ≡ bytes_before (map bytes_of segments.now) (length segments.now) }
 {
     let mut bytes = 0;
@@ -112,7 +113,7 @@ fn all_bytes(segments: &[&[u8]]) -> u32
 fn next_segment(style: Style, segments: &[&[u8]], pass: u16, at: usize, before: u32) -> (usize, u32)
     requires at { at ≡ ends_below style.bits pass }
     requires before { before ≡ bytes_before (map bytes_of segments.now) at }
-    requires bytes { bytes_before (map bytes_of segments.now) (length segments.now) ≤ 2 ^ 28 }
+    requires bytes { bytes_before (map bytes_of segments.now) (length segments.now) ≤ most_bytes }
     ensures at { result.0 ≡ ends_below style.bits (pass + 1) }
     ensures before { result.1 ≡ bytes_before (map bytes_of segments.now) result.0 }
 {
@@ -134,7 +135,7 @@ pub(crate) fn by_looks(
 ) -> Result<Vec<u32>, NoMemory>
     requires passes { passes < 2 ^ 15 }
     requires few { AreFew style.bits (map bytes_of segments.now) looked.now }
-    requires bytes { bytes_before (map bytes_of segments.now) (length segments.now) ≤ 2 ^ 28 }
+    requires bytes { bytes_before (map bytes_of segments.now) (length segments.now) ≤ most_bytes }
     ensures { IfOk result (λ table. table.items ≡ map (sent_by_looks style.bits passes (map bytes_of segments.now) looked.now) (range_with_len 0 (passes + 1))) }
 {
     let mut table = Vec::with_capacity(alloc, usize::from(passes) + 1)?;

@@ -1,10 +1,11 @@
 //! Where the pieces of a block begin in its bytes, so that the piece of a place is found without a walk.
 
-ghost use Rattle.std.specs.Prelude.{◌≡◌, ◌≤◌, ◌<◌, ◌-◌, ◌^◌, ℕ, map, length, IfOk};
+ghost use Rattle.std.specs.Prelude.{◌≡◌, ◌≤◌, ◌<◌, ◌-◌, ℕ, map, length, IfOk};
 ghost use Rattle.std.specs.List.Sorted.{IsNonDecreasing};
 ghost use Rattle.jx_base.specs.Pieces.{value_of, bytes_in};
 ghost use Rattle.jx_codeblock.specs.Starts.{AreStarts};
 ghost use Rattle.jx_codeblock.specs.Tables.{at_place};
+ghost use Rattle.jx_base.specs.Limits.{most_bytes};
 
 use jx_base::{NoMemory, Piece};
 use std::alloc::Global;
@@ -14,7 +15,7 @@ const FEW: usize = 8;
 
 /// Where each piece begins.
 fn all_starts(alloc: Global, pieces: &[Piece<'_>]) -> Result<Vec<u32>, NoMemory>
-    requires { bytes_in (map value_of pieces.now) ≤ 2 ^ 28 }
+    requires { bytes_in (map value_of pieces.now) ≤ most_bytes }
     ensures { IfOk result (λ starts. AreStarts (map value_of pieces.now) starts.items) }
 {
     let mut starts = Vec::with_capacity(alloc, pieces.len())?;
@@ -38,7 +39,7 @@ fn has_bytes(pieces: &[Piece<'_>]) -> bool {
 
 /// Where pieces begin. Of a few, and of those that all have no bytes, it isn't told, and takes no memory.
 pub(crate) fn starts_of(alloc: Global, pieces: &[Piece<'_>]) -> Result<Vec<u32>, NoMemory>
-    requires { bytes_in (map value_of pieces.now) ≤ 2 ^ 28 }
+    requires { bytes_in (map value_of pieces.now) ≤ most_bytes }
     ensures { IfOk result (λ starts. AreStarts (map value_of pieces.now) starts.items) }
 {
     if pieces.len() <= FEW || !has_bytes(pieces) {

@@ -1,5 +1,5 @@
 -- Blocks of the tests.
-use Rattle.std.proofs.Common.{ℕ, ◌≡◌, ◌+◌, ◌*◌, ◌<◌, ◌≤◌, ◌^◌, ◌%◌, List, [], ◌∷◌, ◌++◌, ◌∙◌, inl, inr, refl, sym, arith, length, Some}
+use Rattle.std.proofs.Common.{ℕ, ◌≡◌, ◌+◌, ◌*◌, ◌<◌, ◌≤◌, ◌%◌, List, [], ◌∷◌, ◌++◌, ◌∙◌, inl, inr, refl, sym, arith, length, Some}
 use Rattle.std.specs.List.{All}
 use Rattle.std.proofs.lemmas.List.Elements.{All-head, All-nil, All-push, All-tail, All-weaker}
 use Rattle.std.proofs.lemmas.List.Sums.{sum_by-append, sum_by-cons}
@@ -10,6 +10,7 @@ use Rattle.jx_base.specs.declared.pieces.Block.{Block}
 use Rattle.jx_base.specs.declared.style.Style.{Style}
 use Rattle.jx_codeblock.specs.declared.LayerEnd.{LayerEnd}
 use Rattle.jx_codeblock.specs.Jobs.{AreEnds, IsAsked}
+use Rattle.jx_base.specs.Limits.{most_bytes}
 
 piece : (layer first passes : ℕ) (bytes : List ℕ) → 1 ≤ passes → HasNoMarker 0 bytes
     → IsPieceOf 0 layer first (record { layer = layer; first = first; passes = passes; bytes = bytes })
@@ -24,7 +25,7 @@ piece layer first passes bytes some h = record {
 pub one_piece : (bytes : List ℕ) → HasNoMarker 0 bytes → ArePieces 0 0 0 4 (record { layer = 0; first = 0; passes = 4; bytes = bytes } ∷ [])
 one_piece bytes h = (piece 0 0 4 bytes (omega arith) h, refl)
 
-pub one_bytes : (p : PieceValue) → length p.bytes ≤ 100 → bytes_in (p ∷ []) ≤ 2 ^ 28
+pub one_bytes : (p : PieceValue) → length p.bytes ≤ 100 → bytes_in (p ∷ []) ≤ most_bytes
 one_bytes p le = omega (arith, sum_by-cons (λ (q : PieceValue). length q.bytes) p [])
 
 pub two_pieces : (a b : List ℕ) → HasNoMarker 0 a → HasNoMarker 0 b
@@ -32,7 +33,7 @@ pub two_pieces : (a b : List ℕ) → HasNoMarker 0 a → HasNoMarker 0 b
 two_pieces a b h k =
     (piece 0 0 2 a (omega arith) h, (record { layers = omega arith; begins = refl; some = omega arith; segment = λ (pass : ℕ) le lt. refl; markers = k }, refl))
 
-pub two_bytes : (p q : PieceValue) → length p.bytes ≤ 100 → length q.bytes ≤ 100 → bytes_in (p ∷ q ∷ []) ≤ 2 ^ 28
+pub two_bytes : (p q : PieceValue) → length p.bytes ≤ 100 → length q.bytes ≤ 100 → bytes_in (p ∷ q ∷ []) ≤ most_bytes
 two_bytes p q le le' = omega (arith, sum_by-cons (λ (x : PieceValue). length x.bytes) p (q ∷ []), sum_by-cons (λ (x : PieceValue). length x.bytes) q [])
 
 -- ---- blocks that are coded anew
@@ -53,7 +54,7 @@ pub each_pass : (style : ℕ) (a b : List ℕ) → HasNoMarker 0 a → HasNoMark
     ∷ record { layer = 0; first = 2; passes = 1; bytes = b } ∷ record { layer = 0; first = 3; passes = 1; bytes = b } ∷ [])
 each_pass style a b h k = (single style 0 0 a h, (single style 0 1 b k, (single style 0 2 b k, (single style 0 3 b k, refl))))
 
-pub each_bytes : (p q r s : PieceValue) → length p.bytes ≤ 100 → length q.bytes ≤ 100 → length r.bytes ≤ 100 → length s.bytes ≤ 100 → bytes_in (p ∷ q ∷ r ∷ s ∷ []) ≤ 2 ^ 28
+pub each_bytes : (p q r s : PieceValue) → length p.bytes ≤ 100 → length q.bytes ≤ 100 → length r.bytes ≤ 100 → length s.bytes ≤ 100 → bytes_in (p ∷ q ∷ r ∷ s ∷ []) ≤ most_bytes
 each_bytes p q r s a b c d =
     let f : PieceValue → ℕ = λ x. length x.bytes in
     omega (arith, sum_by-cons f p (q ∷ r ∷ s ∷ []), sum_by-cons f q (r ∷ s ∷ []), sum_by-cons f r (s ∷ []), sum_by-cons f s [])
@@ -99,5 +100,5 @@ spread_next style pass bytes ps more h markers few e =
 pub spread_pieces : (style : ℕ) (ps : List PieceValue) → Spread style 13 ps → ArePieces style 0 0 13 ps
 spread_pieces style ps h = h.are
 
-pub spread_bytes : (style : ℕ) (ps : List PieceValue) → Spread style 13 ps → bytes_in ps ≤ 2 ^ 28
+pub spread_bytes : (style : ℕ) (ps : List PieceValue) → Spread style 13 ps → bytes_in ps ≤ most_bytes
 spread_bytes style ps h = omega (arith, h.bytes)

@@ -1,10 +1,11 @@
 //! Small blocks, the layers that they are sent in, and what becomes of them.
 
-ghost use Rattle.std.specs.Prelude.{◌≡◌, ◌≤◌, ◌-◌, ◌*◌, ◌^◌, length, IfOk};
+ghost use Rattle.std.specs.Prelude.{◌≡◌, ◌≤◌, ◌-◌, ◌*◌, length, IfOk};
 ghost use Rattle.jx_base.specs.Markers.{HasNoMarker};
 ghost use Rattle.jx_base.specs.Pieces.{ArePieces, bytes_in};
 ghost use Rattle.jx_base.specs.Sound.{IsSound};
 ghost use Rattle.jx_codeblock.specs.Jobs.{AreEnds, IsAsked};
+ghost use Rattle.jx_base.specs.Limits.{most_bytes};
 
 use jx_base::{Band, Block, BlockName, NoMemory, Piece, Pieces, Rect, Span, Style};
 use jx_codeblock::{BlockFault, Ends, Job, LayerEnd, LayerPart, recode};
@@ -16,7 +17,7 @@ pub(crate) fn block_of<'a>(style: Style, zero: u8, passes: u16, pieces: Pieces<'
     requires zero { zero ≤ 9 }
     requires passes { passes ≤ 3 * (9 - zero) - 2 }
     requires pieces { ArePieces style.bits 0 0 passes pieces }
-    requires bytes { bytes_in pieces ≤ 2 ^ 28 }
+    requires bytes { bytes_in pieces ≤ most_bytes }
     ensures sound { IsSound result }
     ensures passes { result.passes ≡ passes }
     ensures pieces { result.pieces ≡ pieces.entry }

@@ -1,10 +1,11 @@
 //! Words that say rules or none, and the layers of a block by each planner.
 
-ghost use Rattle.std.specs.Prelude.{◌≡◌, ◌+◌, ◌≤◌, ◌^◌, [], length, IfOk, IfSome};
+ghost use Rattle.std.specs.Prelude.{◌≡◌, ◌+◌, ◌≤◌, [], length, IfOk, IfSome};
 ghost use Rattle.std.specs.List.{All};
 ghost use Rattle.std.specs.Option.{option_map};
 ghost use Rattle.jx_base.specs.Sound.{IsSound};
 ghost use Rattle.jx_layers.specs.Rule.{layers_by};
+ghost use Rattle.jx_base.specs.Limits.{most_blocks};
 
 use crate::checks::{check, equal, equal_at};
 use jx_base::{Band, Block, BlockName, NoMemory, Piece, Pieces, Rect, Span, Style};
@@ -135,7 +136,7 @@ fn plan_in(
     words: &str,
     blocks: &[Block<'_>],
 ) -> Result<Option<Planned>, NoMemory>
-    requires few { length blocks.now ≤ 2 ^ 20 }
+    requires few { length blocks.now ≤ most_blocks }
     requires sound { All IsSound blocks.now }
 {
     let facts = StreamFacts {

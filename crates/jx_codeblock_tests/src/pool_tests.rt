@@ -1,12 +1,13 @@
 //! Workers on small blocks.
 
-ghost use Rattle.std.specs.Prelude.{◌≡◌, ◌≤◌, ◌<◌, ◌+◌, ◌*◌, ◌^◌, IfOk, OnOk, length, map, vec_len};
+ghost use Rattle.std.specs.Prelude.{◌≡◌, ◌≤◌, ◌<◌, ◌+◌, ◌*◌, IfOk, OnOk, length, map, vec_len};
 ghost use Rattle.std.specs.List.{sum};
 ghost use Rattle.jx_base.specs.Markers.{HasNoMarker};
 ghost use Rattle.jx_base.specs.Pieces.{bytes_in};
 ghost use Rattle.jx_base.specs.Sound.{IsSound};
 ghost use Rattle.jx_codeblock.specs.Jobs.{AreEnds, IsAsked};
 ghost use Rattle.jx_workers.specs.Tapes.{AreAsked, size_of};
+ghost use Rattle.jx_base.specs.Limits.{most_bytes};
 
 use crate::blocks::{in_one, one_pass};
 use crate::checks::{check, equal, given};
@@ -117,7 +118,7 @@ fn lines<'a, R: Threads + Wait + Sync, G: Gate + Sync>(
     gate: &G,
 ) -> Result<(Vec<Line>, Vec<u8>), NoMemory>
     requires jobs { AreAsked first jobs.now × (first ≤ 1000) × (length jobs.now ≤ 1000) × (sum (map size_of jobs.now) ≤ 100 * length jobs.now) }
-    requires limits { (0 < limits.0) × (limits.0 ≤ 64) × (0 < limits.1) × (limits.1 ≤ 1024) × (0 < limits.2) × (limits.2 ≤ 2 ^ 28) }
+    requires limits { (0 < limits.0) × (limits.0 ≤ 64) × (0 < limits.1) × (limits.1 ≤ 1024) × (0 < limits.2) × (limits.2 ≤ most_bytes) }
 {
     let (threads, window, most) = limits;
     let tape = recode_all(rt, alloc, jobs, first, threads, window, most, gate)?;
@@ -159,7 +160,7 @@ fn run_over<R: Threads + Wait + Sync, G: Gate + Sync>(
     requires right { IsSound right.now × (right.now.passes ≡ 1) × (bytes_in right.now.pieces ≤ 100) }
     requires wrong { IsSound wrong.now × (wrong.now.passes ≡ 1) × (bytes_in wrong.now.pieces ≤ 100) }
     requires count { (count ≤ 1000) × (first ≤ 1000) }
-    requires limits { (0 < limits.0) × (limits.0 ≤ 64) × (0 < limits.1) × (limits.1 ≤ 1024) × (0 < limits.2) × (limits.2 ≤ 2 ^ 28) }
+    requires limits { (0 < limits.0) × (limits.0 ≤ 64) × (0 < limits.1) × (limits.1 ≤ 1024) × (0 < limits.2) × (limits.2 ≤ most_bytes) }
 {
     let jobs = jobs_of(alloc, right, wrong, count, first, wrong_at, kept)?;
     lines(rt, alloc, jobs.as_slice(), first, limits, gate)
@@ -177,7 +178,7 @@ pub(crate) fn run<R: Threads + Wait + Sync, G: Gate + Sync>(
     gate: &G,
 ) -> Result<(Vec<Line>, Vec<u8>), NoMemory>
     requires count { (count ≤ 1000) × (first ≤ 1000) }
-    requires limits { (0 < limits.0) × (limits.0 ≤ 64) × (0 < limits.1) × (limits.1 ≤ 1024) × (0 < limits.2) × (limits.2 ≤ 2 ^ 28) }
+    requires limits { (0 < limits.0) × (limits.0 ≤ 64) × (0 < limits.1) × (limits.1 ≤ 1024) × (0 < limits.2) × (limits.2 ≤ most_bytes) }
 {
     let right = one_pass(alloc, Style { bits: 0x20 }, &[0x01])?;
     let wrong = one_pass(alloc, Style { bits: 0x20 }, &[0x03])?;

@@ -6,6 +6,7 @@ ghost use Rattle.jx_marker.specs.Ranges.{InRange};
 ghost use Rattle.jx_marker.specs.Segments.{segment_at, size_at};
 ghost use Rattle.jx_codestream.specs.Faults.{Answers, fault_of};
 ghost use Rattle.jx_codestream.specs.Headers.{stands_in, ends_header, slot_of, slot_count, early_fault, header_at, header_fault, MarksSlots};
+ghost use Rattle.jx_base.specs.Limits.{most_bytes};
 
 use crate::{Segments, StreamFault, slots};
 use jx_marker::{Rule, Segment, read_segment, rule_numbers};
@@ -103,7 +104,7 @@ pub fn slot_of(segment: &Segment) -> usize
 
 /// Why no segment is read at a place.
 pub fn fault_of(rule: Rule, at: usize) -> StreamFault
-    requires { at ≤ 2 ^ 28 }
+    requires { at ≤ most_bytes }
     ensures { result ≡ fault_of rule at }
 {
     match rule {
@@ -121,7 +122,7 @@ pub fn segment_in(
     comps: u16,
 ) -> Result<(Segment, usize), StreamFault>
     requires place { at ≤ length bytes.now }
-    requires fits { length bytes.now ≤ 2 ^ 28 }
+    requires fits { length bytes.now ≤ most_bytes }
     ensures answer { Answers result (early_fault kind comps bytes.now at) (λ r. r.0 ≡ segment_at comps (drop at bytes.now)) }
     ensures after { IfOk result (λ r. (r.1 ≡ at + size_at (drop at bytes.now)) × (r.1 ≤ length bytes.now)) }
     ensures range { IfOk result (λ r. InRange comps r.0) }
@@ -162,7 +163,7 @@ pub fn read_header(
     seen: &mut [u32],
 ) -> Result<Header, StreamFault>
     requires place { at ≤ length bytes.now }
-    requires fits { length bytes.now ≤ 2 ^ 28 }
+    requires fits { length bytes.now ≤ most_bytes }
     requires slots { length seen.old ≡ slot_count comps }
     requires fresh { (slot : ℕ) → slice_index seen.old slot < at }
     ensures answer { Answers result (header_fault kind comps bytes.now at) (λ header. header ≡ header_at kind comps bytes.now at) }

@@ -10,6 +10,7 @@ ghost use Rattle.jx_codestream.specs.declared.parts.PlacedPart.{PlacedPart};
 ghost use Rattle.jx_codestream.specs.Faults.{Answers};
 ghost use Rattle.jx_codestream.specs.Headers.{slot_count, MarksSlots};
 ghost use Rattle.jx_codestream.specs.Parts.{marker_at, sot_in, after_sot, kind_of, start_fault, sot_fault, sod_fault, is_out_of_turn, has_wrong_length, end_of, part_at, part_fault, tables_say, parts_fault, parts_from, end_of_part, Tracks};
+ghost use Rattle.jx_base.specs.Limits.{most_bytes};
 
 use crate::headers::{HeaderKind, fault_of, read_header, violated};
 use crate::{Body, Segments, StreamFault};
@@ -53,7 +54,7 @@ fn sot_of(segment: &Segment) -> Option<Sot>
 #[tactic(auto, unfolding(crate::specs::Parts::start_fault))]
 fn read_sot(alloc: Global, bytes: &[u8], at: usize, comps: u16) -> Result<(Sot, usize), StreamFault>
     requires place { at ≤ length bytes.now }
-    requires fits { length bytes.now ≤ 2 ^ 28 }
+    requires fits { length bytes.now ≤ most_bytes }
     requires goes_on { marker_at bytes.now at EOC ≡ false }
     ensures answer { Answers result (start_fault comps bytes.now at) (λ r. (r.0 ≡ sot_in bytes.now at) × (r.1 ≡ after_sot bytes.now at)) }
     ensures within { IfOk result (λ r. (at < r.1) × (r.1 ≤ length bytes.now)) }
@@ -100,7 +101,7 @@ fn check_sot(
     counts: &[u16],
     told: &[u8],
 ) -> Result<(), StreamFault>
-    requires place { at ≤ 2 ^ 28 }
+    requires place { at ≤ most_bytes }
     requires tables { length told.now ≡ length counts.now }
     ensures answer { Answers result (sot_fault (length counts.now) bytes.now at sot (tables_say counts.now told.now sot))
         (λ _. (sot.tile < length counts.now) × (at + sot.psot ≤ length bytes.now)) }
@@ -122,10 +123,10 @@ fn check_sot(
 /// Where a tile-part with SOD at `sod` ends.
 #[tactic(auto, unfolding(crate::specs::Parts::sod_fault))]
 fn end_of(bytes: &[u8], at: usize, sot: Sot, sod: usize) -> Result<usize, StreamFault>
-    requires place { at ≤ 2 ^ 28 }
+    requires place { at ≤ most_bytes }
     requires sod { sod + 2 ≤ length bytes.now }
     requires length { at + sot.psot ≤ length bytes.now }
-    requires fits { length bytes.now ≤ 2 ^ 28 }
+    requires fits { length bytes.now ≤ most_bytes }
     ensures answer { Answers result (sod_fault bytes.now at sot sod) (λ end. (end ≡ end_of bytes.now at sot) × (sod + 2 ≤ end) × (end ≤ length bytes.now)) }
     ensures memory { IfErr result (λ e. e ≢ StreamFault.NoMemory) }
 {
@@ -164,7 +165,7 @@ fn read_part(
     told: &[u8],
 ) -> Result<PlacedPart, StreamFault>
     requires place { at ≤ length bytes.now }
-    requires fits { length bytes.now ≤ 2 ^ 28 }
+    requires fits { length bytes.now ≤ most_bytes }
     requires goes_on { marker_at bytes.now at EOC ≡ false }
     requires slots { length seen.old ≡ slot_count comps }
     requires fresh { (slot : ℕ) → slice_index seen.old slot ≤ at }
@@ -222,7 +223,7 @@ pub fn read_parts(
     told: &mut [u8],
 ) -> Result<(Vec<PlacedPart>, usize), StreamFault>
     requires place { at ≤ length bytes.now }
-    requires fits { length bytes.now ≤ 2 ^ 28 }
+    requires fits { length bytes.now ≤ most_bytes }
     requires slots { length seen.old ≡ slot_count comps }
     requires fresh { (slot : ℕ) → slice_index seen.old slot ≤ at }
     requires tables { length told.old ≡ length counts.old }

@@ -16,6 +16,7 @@ ghost use Rattle.jx_codestream.specs.Headers.{cod_slot, qcd_slot, slot_count};
 ghost use Rattle.jx_codestream.specs.Parts.{Tracks, end_of_part};
 ghost use Rattle.jx_codestream.specs.Params.{entries_fault, planes_fault};
 ghost use Rattle.jx_codestream.specs.First.{canvas_of, tile_number, siz_of, after_siz, front_fault, tiles_fault, lacks_default, main_header, main_fault, parts_after, lacks_part, body_fault, stream_from, stream_in, parameters_fault, later_fault, first_fault};
+ghost use Rattle.jx_base.specs.Limits.{most_bytes};
 
 use crate::checks::{check_entries, check_planes};
 use crate::headers::{Header, HeaderKind, fault_of, read_header, violated};
@@ -50,7 +51,7 @@ pub fn canvas_of(siz: &Siz) -> Canvas
 
 /// The SIZ that stands after SOC, and the place after it.
 fn read_front(alloc: Global, bytes: &[u8]) -> Result<(Siz, usize), StreamFault>
-    requires { length bytes.now ≤ 2 ^ 28 }
+    requires { length bytes.now ≤ most_bytes }
     ensures answer { Answers result (front_fault bytes.now) (λ r. (r.0 ≡ siz_of bytes.now) × (r.1 ≡ after_siz bytes.now)) }
     ensures within { IfOk result (λ r. (0 < r.1) × (r.1 ≤ length bytes.now)) }
     ensures range { IfOk result (λ r. siz_fits r.0 ≡ true) }
@@ -107,7 +108,7 @@ fn read_main(
     seen: &mut [u32],
 ) -> Result<Header, StreamFault>
     requires place { start ≤ length bytes.now }
-    requires fits { length bytes.now ≤ 2 ^ 28 }
+    requires fits { length bytes.now ≤ most_bytes }
     requires slots { length seen.old ≡ slot_count comps }
     requires fresh { (slot : ℕ) → slice_index seen.old slot < start }
     ensures answer { Answers result (main_fault comps bytes.now start) (λ main. main ≡ main_header comps bytes.now start) }
@@ -140,7 +141,7 @@ fn read_body(
 ) -> Result<(Header, Vec<PlacedPart>), StreamFault>
     requires place { start ≤ length bytes.now }
     requires some { 0 < start }
-    requires fits { length bytes.now ≤ 2 ^ 28 }
+    requires fits { length bytes.now ≤ most_bytes }
     requires slots { length seen.old ≡ slot_count comps }
     requires fresh { (slot : ℕ) → slice_index seen.old slot ≡ 0 }
     requires tables { length told.old ≡ length counts.old }
@@ -168,7 +169,7 @@ fn read_headers(
 ) -> Result<(Header, Vec<PlacedPart>), StreamFault>
     requires place { start ≤ length bytes.now }
     requires some { 0 < start }
-    requires fits { length bytes.now ≤ 2 ^ 28 }
+    requires fits { length bytes.now ≤ most_bytes }
     ensures answer { Answers result (body_fault comps count bytes.now start)
         (λ r. (r.0 ≡ main_header comps bytes.now start) × (r.1.items ≡ (parts_after comps count bytes.now start).parts)) }
     ensures tiles { IfOk result (λ r. All (λ (part : PlacedPart). part.sot.tile < count) r.1.items) }
@@ -214,7 +215,7 @@ fn count_comps(siz: &Siz) -> u16
 fn read_rest(alloc: Global, bytes: &[u8], siz: Siz, start: usize) -> Result<Stream, StreamFault>
     requires place { start ≤ length bytes.now }
     requires some { 0 < start }
-    requires fits { length bytes.now ≤ 2 ^ 28 }
+    requires fits { length bytes.now ≤ most_bytes }
     requires range { siz_fits siz ≡ true }
     ensures { Answers result (later_fault siz bytes.now start) (λ stream. stream ≡ stream_from siz bytes.now start) }
 {
@@ -231,14 +232,14 @@ fn read_rest(alloc: Global, bytes: &[u8], siz: Siz, start: usize) -> Result<Stre
     })
 }
 
-/// The stream that a file of at most 2^28 bytes spells.
+/// The stream that a file of at most 2^32 - 1 bytes spells.
 ///
 /// `Rule` names the first of the rules 1 to 24 that the file violates, with its place; `Limit` the first of the
 /// limits 3 (tiles) and 4 (planes of a band) that it passes, with what was counted. First is what `IsFirst` says, a
 /// relation on the whole file: a front of it is spelled and violates nothing, and where this front ends the first test
 /// of that place that is true is this one. `NoMemory` may stand in place of either. What follows EOC isn't read.
 pub fn read_stream(alloc: Global, bytes: &[u8]) -> Result<Stream, StreamFault>
-    requires { length bytes.now ≤ 2 ^ 28 }
+    requires { length bytes.now ≤ most_bytes }
     ensures exact { Answers result (first_fault bytes.now) (λ stream. stream ≡ stream_in bytes.now) }
     // What is read is spelled, within the limits, and nothing else is spelled.
     ensures read { IfOk result (λ stream. IsRead bytes.now stream) }

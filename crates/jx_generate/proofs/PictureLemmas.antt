@@ -30,6 +30,7 @@ use Rattle.jx_geom.proofs.LeafLemmas.{leaf_below, leaves_limited}
 use Rattle.jx_generate.proofs.GeometryLemmas.{geometry_in_range, precinct_there}
 use Rattle.jx_generate.specs.Values.{drawn_of, drawn_piece}
 use Rattle.jx_generate.proofs.DrawnFits.{drawn_short}
+use Rattle.jx_base.specs.Limits.{most_blocks}
 
 pub blocks_long : (seed count : ℕ) (blocks : List DrawnBlock) → map drawn_of blocks ≡ map (block_drawn seed) (range_with_len 0 count) → length blocks ≡ count
 blocks_long seed count blocks e = sym (length-map blocks drawn_of) ∙ ap (λ (xs : List Drawn). length xs) e ∙ length-map-range_with_len (block_drawn seed) 0 count
@@ -95,7 +96,7 @@ unfolding count_drawn
 leaf_there m g blocks c r j is lt le inside =
     leaf_below (geometry_made m.width m.height) c r 0 j (geometry_in_range m.width m.height is.sizes) (precinct_there m.width m.height c r is.sizes lt le) inside
 
-pub leaves_few : (m : Making) (g : Geometry) (blocks : List Drawn) (c r : ℕ) → IsMaking m g blocks → c < 3 → r ≤ 5 → leaves (geometry_made m.width m.height) c r 0 ≤ 2 ^ 20
+pub leaves_few : (m : Making) (g : Geometry) (blocks : List Drawn) (c r : ℕ) → IsMaking m g blocks → c < 3 → r ≤ 5 → leaves (geometry_made m.width m.height) c r 0 ≤ most_blocks
 leaves_few m g blocks c r is lt le =
     leaves_limited (geometry_made m.width m.height) c r 0 (geometry_in_range m.width m.height is.sizes) (precinct_there m.width m.height c r is.sizes lt le)
 

@@ -24,6 +24,7 @@ use Rattle.jx_generate.specs.Made.{file_with, part_with}
 use Rattle.jx_generate.specs.Reading.{stream_made, tile_made}
 use Rattle.jx_generate.proofs.GeometryLemmas.{count_one, level_5, limits_made, one_tile, precincts_limited, shapes_made, three_shapes}
 use Rattle.jx_generate.proofs.RangeLemmas.{cod_in_range, com_in_range, qcd_in_range, siz_in_range}
+use Rattle.jx_base.specs.Limits.{most_blocks}
 
 main_stands : AreSegments Main 3 [] main_made
 main_stands = (
@@ -124,7 +125,7 @@ precincts_own : (w h size : ℕ) → tile_packets (stream_made w h size) 0 ≡ t
 unfolding shapes_in stream_made
 precincts_own w h size = refl
 
-blocks_within : (w h size : ℕ) → AreSizes w h → block_total (stream_made w h size) ≤ 2 ^ 20
+blocks_within : (w h size : ℕ) → AreSizes w h → block_total (stream_made w h size) ≤ most_blocks
 unfolding block_total
 blocks_within w h size sizes =
     let s : Stream = stream_made w h size in
@@ -140,7 +141,7 @@ packets_within w h size sizes =
     let few : tile_precincts (tile_rect (canvas_made w h) 0) shapes_made ≤ 18 = precincts_limited w h sizes in
     omega (arith, one, precincts_own w h size)
 
-not_passed : (blocks packets : ℕ) → blocks ≤ 2 ^ 20 → packets ≤ 2 ^ 22 → option_or (passed 5 blocks (nat_lt (2 ^ 20) blocks)) (passed 6 packets (nat_lt (2 ^ 22) packets)) ≡ None
+not_passed : (blocks packets : ℕ) → blocks ≤ most_blocks → packets ≤ 2 ^ 22 → option_or (passed 5 blocks (nat_lt (most_blocks) blocks)) (passed 6 packets (nat_lt (2 ^ 22) packets)) ≡ None
 not_passed blocks packets few some = grind (arith, nat_tests)
 
 pub totals_within : (w h size : ℕ) → AreSizes w h → totals_fault (stream_made w h size) ≡ None

@@ -13,6 +13,7 @@ ghost use Rattle.jx_generate.specs.Headers.{AreSizes, geometry_made};
 ghost use Rattle.jx_generate.specs.Made.{bands_made, body_made, data_made, drawn_layer_bytes, layer_made, leaf_of_drawn, leaves_made, packet_made, resolution_made};
 ghost use Rattle.jx_generate.specs.Making.{Making, count_drawn, plan_made, three_made, writers_made};
 ghost use Rattle.jx_generate.specs.Values.{drawn_of, drawn_piece};
+ghost use Rattle.jx_base.specs.Limits.{most_blocks};
 
 use crate::drawing::{DrawnBlock, DrawnPiece, draw_blocks};
 use crate::geometry::{count, geometry};
@@ -137,7 +138,7 @@ impl Picture {
         requires comp { comp < 3 }
         requires res { res ≤ 5 }
         ensures numbers { AreLeaves (geometry_made self.now.width self.now.height) comp res 0 result }
-        ensures few { leaves (geometry_made self.now.width self.now.height) comp res 0 ≤ 2 ^ 20 }
+        ensures few { leaves (geometry_made self.now.width self.now.height) comp res 0 ≤ most_blocks }
         ensures each { (j : ℕ) → j < leaves (geometry_made self.now.width self.now.height) comp res 0
             → leaf_number (geometry_made self.now.width self.now.height) comp res 0 j < count_drawn self.now.width self.now.height }
     {

@@ -12,6 +12,7 @@ use Rattle.jx_geom.specs.Geometry.{Geometry, GeometryInRange, HasResolution, no_
 use Rattle.jx_base.specs.Places.{size_of}
 use Rattle.std.proofs.lemmas.Bool.Decides.{nat_tests}
 use Rattle.jx_base.proofs.Sums.{sum_below_more}
+use Rattle.jx_base.specs.Limits.{most_blocks}
 
 pub resolution_low : (tile : Rect) (s : CompShape) (r : ℕ) → r ≡ 0 → resolution_blocks tile s r ≡ block_count tile s r LL
 unfolding resolution_blocks
@@ -66,7 +67,7 @@ precincts_limited g c r h there =
     let outer = get_or-le-sum_by (component_precincts (rect_of_tile g)) g.shapes c no_shape there.component in
     omega (arith, inner, outer, h.limits.precincts)
 
-pub blocks_limited : (g : Geometry) (c r : ℕ) (b : Band) → GeometryInRange g → HasResolution g c r → HasBand r b → size_of (blocks_in g c r b) ≤ 2 ^ 20
+pub blocks_limited : (g : Geometry) (c r : ℕ) (b : Band) → GeometryInRange g → HasResolution g c r → HasBand r b → size_of (blocks_in g c r b) ≤ most_blocks
 blocks_limited g c r b h there has =
     let inner = blocks_within (rect_of_tile g) (shape_of g c) r b there.level has in
     let outer = get_or-le-sum_by (component_blocks (rect_of_tile g)) g.shapes c no_shape there.component in

@@ -1,5 +1,5 @@
 -- The blocks of a precinct, its leaves: each is a block of the tile, and each block of the tile is a leaf of one precinct alone.
-use Rattle.std.proofs.Common.{◌≡◌, ℕ, ◌+◌, ◌-◌, ◌*◌, ◌≤◌, ◌<◌, ◌^◌, List, [], ◌∷◌, inl, inr, ◌∙◌, ap, sym, subst, refl, arith}
+use Rattle.std.proofs.Common.{◌≡◌, ℕ, ◌+◌, ◌-◌, ◌*◌, ◌≤◌, ◌<◌, List, [], ◌∷◌, inl, inr, ◌∙◌, ap, sym, subst, refl, arith}
 use Rattle.std.specs.List.{Contains}
 use Rattle.std.proofs.lemmas.Bool.{cases_lt}
 use Rattle.std.proofs.lemmas.Bool.Decides.{nat_tests}
@@ -22,6 +22,7 @@ use Rattle.jx_geom.specs.Ranges.{HasBand}
 use Rattle.jx_geom.proofs.CountLemmas.{resolution_low, resolution_high, blocks_limited}
 use Rattle.jx_geom.proofs.LawLemmas.{precinct_blocks_to, block_cell_from, block_in_one_precinct}
 use Rattle.jx_geom.proofs.NumberLemmas.{number_in_tile_below, number_in_tile_grows}
+use Rattle.jx_base.specs.Limits.{most_blocks}
 
 pub bands_low : (r : ℕ) → r ≡ 0 → bands_at r ≡ LL ∷ []
 bands_low r e = grind (arith, nat_tests)
@@ -325,7 +326,7 @@ fewer_places a b inside = elim (cases_lt 0 (length_of a.x)) [
 pub cells_fit : (g : Geometry) (c r k : ℕ) (b : Band) → GeometryInRange g → HasPrecinct g c r k → size_of (cells_at g c r k b) ≤ size_of (blocks_in g c r b)
 cells_fit g c r k b h there = fewer_places (cells_at g c r k b) (blocks_in g c r b) (λ u v i. cell_in_band g c r k b u v h there i)
 
-pub cells_small : (g : Geometry) (c r k : ℕ) (b : Band) → GeometryInRange g → HasPrecinct g c r k → HasBand r b → size_of (cells_at g c r k b) ≤ 2 ^ 20
+pub cells_small : (g : Geometry) (c r k : ℕ) (b : Band) → GeometryInRange g → HasPrecinct g c r k → HasBand r b → size_of (cells_at g c r k b) ≤ most_blocks
 cells_small g c r k b h there has = omega (arith, cells_fit g c r k b h there, blocks_limited g c r b h there.resolution has)
 
 -- a precinct has no more blocks than its resolution
@@ -352,14 +353,14 @@ leaves_within g c r k h there = elim (cases_lt 0 r) [
       omega (arith, leaves_low g c r k low, resolution_low (rect_of_tile g) (shape_of g c) r low, cells_fit g c r k LL h there)
 ]
 
-pub resolution_limited : (g : Geometry) (c r : ℕ) → GeometryInRange g → HasResolution g c r → resolution_blocks (rect_of_tile g) (shape_of g c) r ≤ 2 ^ 20
+pub resolution_limited : (g : Geometry) (c r : ℕ) → GeometryInRange g → HasResolution g c r → resolution_blocks (rect_of_tile g) (shape_of g c) r ≤ most_blocks
 unfolding component_blocks
 resolution_limited g c r h there =
     let inner = sum_below_more (resolution_blocks (rect_of_tile g) (shape_of g c)) r ((shape_of g c).levels + 1) (omega (arith, there.level)) in
     let outer = get_or-le-sum_by (component_blocks (rect_of_tile g)) g.shapes c no_shape there.component in
     omega (arith, inner, outer, h.limits.blocks)
 
-pub leaves_limited : (g : Geometry) (c r k : ℕ) → GeometryInRange g → HasPrecinct g c r k → leaves g c r k ≤ 2 ^ 20
+pub leaves_limited : (g : Geometry) (c r k : ℕ) → GeometryInRange g → HasPrecinct g c r k → leaves g c r k ≤ most_blocks
 leaves_limited g c r k h there = omega (arith, leaves_within g c r k h there, resolution_limited g c r h there.resolution)
 
 -- back: each block of the tile is a leaf

@@ -1,5 +1,5 @@
 -- The resolutions of a tile: where each stands in their list, and that the list is in order.
-use Rattle.std.proofs.Common.{◌≡◌, ℕ, zero, suc, ◌+◌, ◌≤◌, ◌<◌, ◌^◌, List, [], ◌∷◌, ◌++◌, ◌⊎◌, length, take, get_or, slice_index, Some, inl, inr, ◌∙◌, ap, sym, subst, refl, arith}
+use Rattle.std.proofs.Common.{◌≡◌, ℕ, zero, suc, ◌+◌, ◌≤◌, ◌<◌, List, [], ◌∷◌, ◌++◌, ◌⊎◌, length, take, get_or, slice_index, Some, inl, inr, ◌∙◌, ap, sym, subst, refl, arith}
 use Rattle.std.proofs.lemmas.List.Sums.{sum_by_more, sum_by_more_le}
 use Rattle.jx_base.specs.declared.names.Rect.{Rect}
 use Rattle.jx_base.specs.Joined.{joined, sum_below}
@@ -22,6 +22,7 @@ use Rattle.jx_base.specs.declared.names.BlockName.{BlockName}
 use Rattle.jx_base.proofs.Lists.{contains_cons, contains_none}
 use Rattle.jx_base.proofs.Sums.{sum_below_grows}
 use Rattle.std.proofs.lemmas.Option.{get_or_from_slice_get, same_Some, slice_get_within}
+use Rattle.jx_base.specs.Limits.{most_blocks}
 
 -- one more component
 pub precincts_more : (tile : Rect) (shapes : List CompShape) (c : ℕ) → c < length shapes
@@ -171,7 +172,7 @@ unfolding resolution_at number_in_tile
 at_blocks g n = omega arith
 
 -- what stands before a resolution is within limit 5
-pub before_few : (g : Geometry) (c r : ℕ) → GeometryInRange g → HasResolution g c r → (resolution_at (rect_of_tile g) g.shapes c r).blocks_before ≤ 2 ^ 20
+pub before_few : (g : Geometry) (c r : ℕ) → GeometryInRange g → HasResolution g c r → (resolution_at (rect_of_tile g) g.shapes c r).blocks_before ≤ most_blocks
 unfolding resolution_at component_blocks
 before_few g c r h there =
     let inner = sum_below_grows (resolution_blocks (rect_of_tile g) (shape_of g c)) r ((shape_of g c).levels + 1) (omega (arith, there.level)) in

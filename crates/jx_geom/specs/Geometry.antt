@@ -9,6 +9,7 @@ use Rattle.jx_geom.specs.declared.shape.CompShape.{CompShape}
 use Rattle.jx_geom.specs.Ranges.{CanvasInRange, ShapeInRange, HasBand}
 use Rattle.jx_geom.specs.Rects.{component_rect, tile_rect, band_rect, block_cells, precinct_cells, precinct_column_point, precinct_row_point}
 use Rattle.jx_geom.specs.Counts.{tile_count, tile_blocks, tile_precincts}
+use Rattle.jx_base.specs.Limits.{most_blocks}
 
 pub record Geometry : Type 0 where
   pub canvas : Canvas
@@ -43,7 +44,7 @@ LacksPlace tile shapes c = size_of (component_rect tile (slice_index_or shapes c
 
 -- limits 5 and 6, of which one tile takes no more than all
 pub record WithinLimits (c : Canvas) (t : ℕ) (shapes : List CompShape) : Type 0 where
-  pub blocks : tile_blocks (tile_rect c t) shapes ≤ 2 ^ 20
+  pub blocks : tile_blocks (tile_rect c t) shapes ≤ most_blocks
   pub precincts : tile_precincts (tile_rect c t) shapes ≤ 2 ^ 22
 
 -- what every geometry keeps; Table A.9: at most 16,384 components

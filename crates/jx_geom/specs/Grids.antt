@@ -7,6 +7,7 @@ use Rattle.jx_geom.specs.declared.shape.CompShape.{CompShape}
 use Rattle.jx_geom.specs.Geometry.{Geometry, rect_of_tile, shape_of}
 use Rattle.jx_geom.specs.Rects.{band_rect, block_cells, block_across, block_down}
 use Rattle.jx_geom.specs.Spans.{cells, cut}
+use Rattle.jx_base.specs.Limits.{most_blocks}
 
 -- the places of a band, the cells of its blocks, and the exponents of a block's width and height
 pub record GridValue : Type 0 where
@@ -35,4 +36,4 @@ cell_part places grid across down i = rect_of (cut places.x (2 ^ across) (column
 -- what every value keeps
 pub record IsGrid (g : GridValue) : Type 0 where
   pub cells : AreCells g.places g.cells g.across g.down
-  pub few : size_of g.cells ≤ 2 ^ 20
+  pub few : size_of g.cells ≤ most_blocks

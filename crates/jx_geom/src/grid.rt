@@ -1,6 +1,6 @@
 //! The code-blocks of a band one after another.
 
-ghost use Rattle.std.specs.Prelude.{◌≡◌, ◌≤◌, ◌<◌, ◌^◌, ℕ};
+ghost use Rattle.std.specs.Prelude.{◌≡◌, ◌≤◌, ◌<◌, ℕ};
 ghost use Rattle.jx_base.specs.declared.names.Band.{Band};
 ghost use Rattle.jx_base.specs.declared.names.Rect.{Rect};
 ghost use Rattle.jx_base.specs.Places.{size_of};
@@ -9,6 +9,7 @@ ghost use Rattle.jx_geom.specs.Counts.{block_count};
 ghost use Rattle.jx_geom.specs.Grids.{grid_of};
 ghost use Rattle.jx_geom.specs.Ranges.{ShapeInRange, HasBand};
 ghost use Rattle.jx_geom.specs.Rects.{block_rect};
+ghost use Rattle.jx_base.specs.Limits.{most_blocks};
 
 use crate::exponents::{Exponents, of_block};
 use crate::rects::{band_of, block_in, cells_in};
@@ -43,7 +44,7 @@ pub(crate) fn grid_of(tile: Rect, shape: &CompShape, res: u8, band: Band) -> Blo
     requires shape { ShapeInRange shape.now }
     requires res { res ≤ shape.now.levels }
     requires band { HasBand res band }
-    requires few { block_count tile shape.now res band ≤ 2 ^ 20 }
+    requires few { block_count tile shape.now res band ≤ most_blocks }
     ensures { result ≡ grid_of tile shape.now res band }
 {
     let places = band_of(tile, shape, res, band);
@@ -59,7 +60,7 @@ impl BlockGrid {
     /// How many code-blocks the band has.
     pub fn count(&self) -> u32
         ensures value { result ≡ size_of self.now.cells }
-        ensures bound { result ≤ 2 ^ 20 }
+        ensures bound { result ≤ most_blocks }
     {
         self.cells.area() as u32
     }

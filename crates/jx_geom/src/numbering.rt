@@ -14,6 +14,7 @@ ghost use Rattle.jx_geom.specs.Geometry.{
 ghost use Rattle.jx_geom.specs.Numbering.{number_in_tile};
 ghost use Rattle.jx_geom.specs.Precincts.{HasPrecinct, precinct_number};
 ghost use Rattle.jx_geom.specs.Ranges.{HasBand};
+ghost use Rattle.jx_base.specs.Limits.{most_blocks};
 
 use crate::tile_geom::TileGeom;
 use jx_base::{Band, BlockName};
@@ -33,7 +34,7 @@ impl TileGeom {
         requires res { HasResolution self.now comp res }
         requires band { HasBand res band }
         ensures value { result ≡ size_of (blocks_in self.now comp res band) }
-        ensures bound { result ≤ 2 ^ 20 }
+        ensures bound { result ≤ most_blocks }
     {
         self.cells(comp, res, band).area() as u32
     }

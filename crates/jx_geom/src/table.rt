@@ -15,6 +15,7 @@ ghost use Rattle.jx_geom.specs.Geometry.{ShapesInRange};
 ghost use Rattle.jx_geom.specs.Ranges.{ShapeInRange};
 ghost use Rattle.jx_geom.specs.Rects.{component_rect};
 ghost use Rattle.jx_geom.specs.Resolutions.{all_places, all_resolutions, one_behind, resolutions_behind};
+ghost use Rattle.jx_base.specs.Limits.{most_blocks};
 
 use crate::counts::{count_precincts_at, count_resolution};
 use crate::empty::{has_no_place, is_empty_after};
@@ -56,7 +57,7 @@ fn push_resolution(
     requires shape { ShapeInRange shape.now }
     requires res { res ≤ shape.now.levels }
     requires precincts { before.precincts + precinct_count tile shape.now res ≤ 2 ^ 22 }
-    requires blocks { before.blocks + resolution_blocks tile shape.now res ≤ 2 ^ 20 }
+    requires blocks { before.blocks + resolution_blocks tile shape.now res ≤ most_blocks }
     ensures list { OnOk result (list.new.items ≡ list.old.items ++ record { comp = comp; res = res; precincts = precinct_count tile shape.now res; precincts_before = before.precincts; blocks_before = before.blocks } ∷ []) }
     ensures precincts { IfOk result (λ b. b.precincts ≡ before.precincts + precinct_count tile shape.now res) }
     ensures blocks { IfOk result (λ b. b.blocks ≡ before.blocks + resolution_blocks tile shape.now res) }
@@ -85,7 +86,7 @@ fn push_resolutions(
 ) -> Result<Before, NoMemory>
     requires shape { ShapeInRange shape.now }
     requires precincts { before.precincts + component_precincts tile shape.now ≤ 2 ^ 22 }
-    requires blocks { before.blocks + component_blocks tile shape.now ≤ 2 ^ 20 }
+    requires blocks { before.blocks + component_blocks tile shape.now ≤ most_blocks }
     ensures list { OnOk result (list.new.items ≡ list.old.items ++ joined (one_behind tile shape.now comp before.precincts before.blocks) 0 (shape.now.levels + 1)) }
     ensures precincts { IfOk result (λ b. b.precincts ≡ before.precincts + component_precincts tile shape.now) }
     ensures blocks { IfOk result (λ b. b.blocks ≡ before.blocks + component_blocks tile shape.now) }
@@ -110,7 +111,7 @@ fn push_component(
     requires shape { ShapeInRange shape.now }
     requires none { IsTrue none ↔ (size_of (component_rect tile shape.now) ≡ 0) }
     requires precincts { before.precincts + component_precincts tile shape.now ≤ 2 ^ 22 }
-    requires blocks { before.blocks + component_blocks tile shape.now ≤ 2 ^ 20 }
+    requires blocks { before.blocks + component_blocks tile shape.now ≤ most_blocks }
     ensures list { OnOk result (list.new.items ≡ list.old.items ++ resolutions_behind tile shape.now comp before.precincts before.blocks) }
     ensures precincts { IfOk result (λ b. b.precincts ≡ before.precincts + component_precincts tile shape.now) }
     ensures blocks { IfOk result (λ b. b.blocks ≡ before.blocks + component_blocks tile shape.now) }
@@ -145,7 +146,7 @@ impl Table {
 pub(crate) fn table_of(alloc: Global, tile: Rect, comps: &[CompShape]) -> Result<Table, NoMemory>
     requires few { length comps.now ≤ 2 ^ 14 }
     requires comps { ShapesInRange comps.now }
-    requires blocks { tile_blocks tile comps.now ≤ 2 ^ 20 }
+    requires blocks { tile_blocks tile comps.now ≤ most_blocks }
     requires precincts { tile_precincts tile comps.now ≤ 2 ^ 22 }
     ensures places { IfOk result (λ t. (t.list.items ≡ []) ⊎ (t.places.items ≡ all_places tile comps.now)) }
     ensures list { IfOk result (λ t. t.list.items ≡ all_resolutions tile comps.now) }

@@ -25,6 +25,7 @@ ghost use Rattle.jx_geom.specs.Rects.{component_rect, tile_rect, precinct_blocks
 ghost use Rattle.jx_geom.specs.Resolutions.{all_places, all_resolutions, resolution_at, resolutions_of};
 ghost use Rattle.jx_geom.specs.Sets.{HasPlace, InBand, InBlock, InCell, InPart, InTile};
 ghost use Rattle.jx_geom.specs.Sizes.{BlockFits};
+ghost use Rattle.jx_base.specs.Limits.{most_blocks};
 
 use crate::grid::{BlockGrid, grid_of};
 use crate::rects::{
@@ -153,7 +154,7 @@ impl TileGeom {
         requires res { HasResolution self.now comp res }
         requires some { 0 < size_of (component_rect (rect_of_tile self.now) (shape_of self.now comp)) }
         ensures value { result ≡ resolution_at (rect_of_tile self.now) self.now.shapes comp res }
-        ensures few { result.blocks_before ≤ 2 ^ 20 }
+        ensures few { result.blocks_before ≤ most_blocks }
         ensures range { GeometryInRange self.now }
     {
         self.table.entry(comp, res)
@@ -192,7 +193,7 @@ impl TileGeom {
         ensures places { (u v : ℕ) → InRect result u v
             ↔ HasPlace (λ x y. InBand (rect_of_tile self.now) (shape_of self.now comp) res band x y
             × InCell (block_across (shape_of self.now comp) res) (block_down (shape_of self.now comp) res) u v x y) }
-        ensures bound { size_of result ≤ 2 ^ 20 }
+        ensures bound { size_of result ≤ most_blocks }
     {
         blocks_of(self.places, self.shape(comp), res, band)
     }

@@ -12,6 +12,7 @@ use Rattle.jx_codeblock.specs.declared.job.Job.{Job}
 use Rattle.jx_layers.specs.Rule.{Rule}
 use Rattle.jx_layers.specs.Layers.{AreJobs, IsJobOf, asked_before}
 use Rattle.jx_layers.specs.Sent.{AreFirst, IsJobFrom}
+use Rattle.jx_base.specs.Limits.{most_blocks}
 
 pub asked_next : (blocks : List Block) (n : ℕ) (d : Block) → n < length blocks → asked_before blocks (n + 1) ≡ asked_before blocks n + (slice_index_or blocks n d).passes
 asked_next blocks n d lt = sum_by_more (λ (b : Block). b.passes) blocks n d lt
@@ -99,7 +100,7 @@ asked_most blocks n b before now lt at before_is most =
 pub begun_on : (o now : Option Rule) → now ≡ o → IsSome o → IsSome now
 begun_on o now is begun = subst IsSome (sym is) begun
 
-pub room_left : (blocks : List Block) (n asked : ℕ) (d : Block) → All IsSound blocks → length blocks ≤ 2 ^ 20 → n < length blocks → asked ≡ asked_before blocks n → asked < 2 ^ 31
+pub room_left : (blocks : List Block) (n asked : ℕ) (d : Block) → All IsSound blocks → length blocks ≤ most_blocks → n < length blocks → asked ≡ asked_before blocks n → asked < 2 ^ 31
 room_left blocks n asked d sound few lt is =
     let most : asked_before blocks n ≤ 220 * n = few_asked blocks n d sound (omega arith) in
     omega (arith, most, few, lt, is)

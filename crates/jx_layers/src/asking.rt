@@ -6,6 +6,7 @@ ghost use Rattle.jx_base.specs.Sound.{IsSound};
 ghost use Rattle.jx_layers.specs.Rule.{Rule, answer};
 ghost use Rattle.jx_layers.specs.Layers.{AreJobs, asked_before, layer_in};
 ghost use Rattle.jx_layers.specs.Sent.{AreSent, IsJobFrom, answered};
+ghost use Rattle.jx_base.specs.Limits.{most_blocks};
 
 use crate::causal::style_for;
 use crate::sending::Sending;
@@ -128,7 +129,7 @@ pub fn ask_jobs<'a>(
     requires begun { IsSome (rule planner.old) }
     requires start { asked planner.old ≡ 0 }
     requires layers { 1 ≤ layers }
-    requires few { length blocks.now ≤ 2 ^ 20 }
+    requires few { length blocks.now ≤ most_blocks }
     requires sound { All IsSound blocks.now }
     ensures jobs { IfOk result (λ jobs. IfSome (rule planner.old) (λ r. AreJobs style r layers blocks.entry.now jobs.items)) }
     ensures count { IfOk result (λ jobs. length jobs.items ≡ length blocks.entry.now) }

@@ -1,8 +1,9 @@
 //! The style that is asked of code-blocks.
 
-ghost use Rattle.std.specs.Prelude.{◌≡◌, ◌≤◌, ◌^◌, length};
+ghost use Rattle.std.specs.Prelude.{◌≡◌, ◌≤◌, length};
 ghost use Rattle.jx_codeblock.specs.Written.{style_for};
 ghost use Rattle.jx_layers.specs.Causal.{breaks_plane, first_broken};
+ghost use Rattle.jx_base.specs.Limits.{most_blocks};
 
 use jx_base::{Block, Style};
 
@@ -28,10 +29,10 @@ fn breaks_plane(asked: Option<Style>, block: &Block<'_>) -> bool
     }
 }
 
-/// The number of the lowest of at most 2^20 blocks that would change its causal bit within a plane, so that the style can't be had; none
+/// The number of the lowest of at most 2^22 blocks that would change its causal bit within a plane, so that the style can't be had; none
 /// where there is no such block. It takes no memory.
 pub fn first_broken(asked: Option<Style>, blocks: &[Block<'_>]) -> Option<u32>
-    requires few { length blocks.now ≤ 2 ^ 20 }
+    requires few { length blocks.now ≤ most_blocks }
     ensures { result ≡ first_broken asked blocks.now }
 {
     for number in 0..blocks.len() {

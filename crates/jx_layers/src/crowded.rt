@@ -1,9 +1,10 @@
 //! Whether a packet header can tell how many passes its layer has of each code-block (ITU-T T.800, B.10.6, Table B.4).
 
-ghost use Rattle.std.specs.Prelude.{◌≤◌, ◌^◌, length};
+ghost use Rattle.std.specs.Prelude.{◌≤◌, length};
 ghost use Rattle.std.specs.Bool.{Decides};
 ghost use Rattle.jx_layers.specs.Layers.{HasMany};
 ghost use Rattle.jx_layers.specs.Crowded.{IsLowestCrowded};
+ghost use Rattle.jx_base.specs.Limits.{most_blocks};
 
 use jx_codeblock::{Job, LayerEnd};
 
@@ -25,7 +26,7 @@ fn has_many(ends: &[LayerEnd]) -> bool
 /// numbers from 0 on; none where there is no such block.
 #[tactic(auto, using(crate::proofs::CrowdLemmas::none_crowded, crate::proofs::CrowdLemmas::is_crowded, crate::proofs::CrowdLemmas::still_none))]
 pub fn first_crowded(jobs: &[Job<'_>]) -> Option<u32>
-    requires { length jobs.now ≤ 2 ^ 20 }
+    requires { length jobs.now ≤ most_blocks }
     ensures { IsLowestCrowded jobs.now result }
 {
     for number in 0..jobs.len() {

@@ -1,8 +1,9 @@
 //! What a planner is told of a codestream.
 
-ghost use Rattle.std.specs.Prelude.{◌≡◌, ◌≤◌, ◌^◌, length, IfOk};
+ghost use Rattle.std.specs.Prelude.{◌≡◌, ◌≤◌, length, IfOk};
 ghost use Rattle.jx_codestream.specs.InRange.{StreamInRange};
 ghost use Rattle.jx_layers.specs.Facts.{facts_of, most_layers, most_planes};
+ghost use Rattle.jx_base.specs.Limits.{most_blocks};
 
 use crate::StreamFacts;
 use jx_base::{Block, NoMemory};
@@ -39,14 +40,14 @@ fn most_planes(blocks: &[Block<'_>]) -> u8
     most
 }
 
-/// What a planner is told of a stream with these code-blocks, at most 2^20.
+/// What a planner is told of a stream with these code-blocks, at most 2^22.
 pub fn facts_of(
     alloc: Global,
     stream: &Stream,
     blocks: &[Block<'_>],
 ) -> Result<StreamFacts, NoMemory>
     requires range { StreamInRange stream.now }
-    requires few { length blocks.now ≤ 2 ^ 20 }
+    requires few { length blocks.now ≤ most_blocks }
     ensures { IfOk result (λ facts. facts ≡ facts_of stream.now blocks.now) }
 {
     let main = stream.main_view(alloc)?;

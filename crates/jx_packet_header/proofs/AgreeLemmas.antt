@@ -26,6 +26,7 @@ use Rattle.jx_packet_header.proofs.PacketLemmas.{stands_there, one_header}
 use Rattle.jx_packet_header.proofs.WriteLemmas.{entry_next, entries_end, behind_same, other_same, no_size}
 use Rattle.jx_packet_header.proofs.PlanLemmas.{state_is}
 use Rattle.jx_packet_header.proofs.LayerLemmas.{IsTold, IsFit, fits_runs, none_in, inclusion, zero_of, entry_told, told_more, told_still, told_known, nothing_told}
+use Rattle.jx_base.specs.Limits.{most_blocks}
 
 -- ---- values of a band's leaves
 pub record AreLeafValues (layers planes : ℕ) (v : Values) (leaves : List Leafed) : Type 0 where
@@ -364,7 +365,7 @@ short_drop zero leaves s = s
 short_drop (suc n) [] s = tt
 short_drop (suc n) (l ∷ ls) s = short_drop n ls s.1
 
-fresh_band_at : (style layers base : ℕ) (b : BandCells) (leaves : List Leafed) → IsBandCells b → 0 < b.wide → b.wide * b.high ≤ 2 ^ 20 → length leaves ≡ b.wide * b.high → FitBand style layers b.planes base leaves → AllShort leaves →
+fresh_band_at : (style layers base : ℕ) (b : BandCells) (leaves : List Leafed) → IsBandCells b → 0 < b.wide → b.wide * b.high ≤ most_blocks → length leaves ≡ b.wide * b.high → FitBand style layers b.planes base leaves → AllShort leaves →
     IsBandAt style layers 0 base (fresh_cells b) leaves
 fresh_band_at style layers base b leaves is lt few all f s =
     let shape : IsShape b.wide b.high = record { some = some_cells b is lt; few = few } in
@@ -382,7 +383,7 @@ fresh_band_at style layers base b leaves is lt few all f s =
       told = λ i lt'. subst (λ (k : Known). IsTold 0 k (leaf_at leaves i)) (sym (unknown_at (b.wide * b.high) i)) (nothing_told (leaf_at leaves i));
     }
 
-fresh_bands_at : (style layers base : ℕ) (bands : List BandCells) (leaves : List Leafed) → AreBandCells bands → cells_in bands ≤ 2 ^ 20 → length leaves ≡ cells_in bands → FitBands style layers base bands leaves → AllShort leaves →
+fresh_bands_at : (style layers base : ℕ) (bands : List BandCells) (leaves : List Leafed) → AreBandCells bands → cells_in bands ≤ most_blocks → length leaves ≡ cells_in bands → FitBands style layers base bands leaves → AllShort leaves →
     AreBandsAt style layers 0 base (fresh_bands bands) leaves
 fresh_bands_at style layers base [] [] a few all f s = refl
 fresh_bands_at style layers base [] (l ∷ ls) a few all f s = absurd (omega arith)
@@ -451,7 +452,7 @@ written_state layers style layer bands leaves r f t le =
     let b = bands_read k.style layers k.layer 0 k.bands leaves p.bands in
     let long : length (all_blocks k.bands) ≡ length leaves = b.1 in
     let all : length leaves ≡ cells_in bands = f.all in
-    let few : cells_in bands ≤ 2 ^ 20 = r.few in
+    let few : cells_in bands ≤ most_blocks = r.few in
     record { bands = b.0; few = omega arith }
 
 -- ---- it is read back

@@ -1,5 +1,5 @@
 -- A precinct before its first packet.
-use Rattle.std.proofs.Common.{◌≡◌, ℕ, zero, suc, ◌+◌, ◌-◌, ◌*◌, ◌<◌, ◌≤◌, ◌^◌, ◌==◌, Bool, true, false, List, [], ◌∷◌, ◌++◌, length, drop, get_or, replicate, refl, sym, ap, ◌∙◌, subst, cond, arith, length-append, inl, inr, ◌⊎◌}
+use Rattle.std.proofs.Common.{◌≡◌, ℕ, zero, suc, ◌+◌, ◌-◌, ◌*◌, ◌<◌, ◌≤◌, ◌==◌, Bool, true, false, List, [], ◌∷◌, ◌++◌, length, drop, get_or, replicate, refl, sym, ap, ◌∙◌, subst, cond, arith, length-append, inl, inr, ◌⊎◌}
 use Rattle.std.proofs.lemmas.Bool.{cases_lt}
 use Rattle.std.proofs.lemmas.Bool.Decides.{nat_tests}
 use Rattle.std.proofs.lemmas.List.{length-replicate, get_or-replicate, get_or_past, drop_all}
@@ -10,6 +10,7 @@ use Rattle.jx_packet_header.specs.Packet.{Cells, unknown_block}
 use Rattle.jx_packet_header.specs.Kept.{IsKnown, IsBand, AreBands}
 use Rattle.jx_packet_header.proofs.BandLoopLemmas.{set_at}
 use Rattle.jx_packet_header.specs.Precinct.{cells_in, IsBandCells, AreBandCells, CellsInRange, fresh_cells, fresh_bands, fresh_state, all_blocks, IsState}
+use Rattle.jx_base.specs.Limits.{most_blocks}
 
 pub cells_at : (bands : List BandCells) (at : ℕ) (d : BandCells) → AreBandCells bands → at < length bands → IsBandCells (get_or bands at d)
 cells_at [] at d a lt = absurd (omega arith)
@@ -37,7 +38,7 @@ some_cells b is lt = by is.size
     by (inl n) = absurd (let e : b.wide ≡ 0 = n.0 in omega arith)
     by (inr s) = product b.wide b.high s.0 s.1
 
-pub fresh_is : (b : BandCells) → IsBandCells b → 0 < b.wide → b.wide * b.high ≤ 2 ^ 20 → IsBand (fresh_cells b)
+pub fresh_is : (b : BandCells) → IsBandCells b → 0 < b.wide → b.wide * b.high ≤ most_blocks → IsBand (fresh_cells b)
 fresh_is b is lt few = record {
   trees = record {
     shape = record { some = some_cells b is lt; few = few };
@@ -51,7 +52,7 @@ fresh_is b is lt few = record {
   blocks = λ i. subst (λ (k : Known). IsKnown k) (sym (unknown_at (b.wide * b.high) i)) (record { passes = omega arith; lblock = omega arith });
 }
 
-pub fresh_are : (bands : List BandCells) → AreBandCells bands → cells_in bands ≤ 2 ^ 20 → AreBands (fresh_bands bands) × (length (all_blocks (fresh_bands bands)) ≤ cells_in bands)
+pub fresh_are : (bands : List BandCells) → AreBandCells bands → cells_in bands ≤ most_blocks → AreBands (fresh_bands bands) × (length (all_blocks (fresh_bands bands)) ≤ cells_in bands)
 fresh_are [] a few = (tt, omega arith)
 fresh_are (b ∷ bs) a few = by (b.wide == 0) refl (fresh_are bs a.1 (omega arith))
   where
@@ -61,7 +62,7 @@ fresh_are (b ∷ bs) a few = by (b.wide == 0) refl (fresh_are bs a.1 (omega arit
     by false e again =
         let lt : 0 < b.wide = grind (arith, nat_tests) in
         let le : length (all_blocks (fresh_bands bs)) ≤ cells_in bs = again.1 in
-        let small : b.wide * b.high ≤ 2 ^ 20 = omega arith in
+        let small : b.wide * b.high ≤ most_blocks = omega arith in
         let l : length (replicate (b.wide * b.high) unknown_block) ≡ b.wide * b.high = length-replicate (b.wide * b.high) unknown_block in
         let s : length (replicate (b.wide * b.high) unknown_block ++ all_blocks (fresh_bands bs)) ≡ length (replicate (b.wide * b.high) unknown_block) + length (all_blocks (fresh_bands bs)) =
         length-append (replicate (b.wide * b.high) unknown_block) (all_blocks (fresh_bands bs)) in
@@ -71,7 +72,7 @@ pub fresh_state_is : (style : ℕ) (bands : List BandCells) → CellsInRange ban
 fresh_state_is style bands r =
     let f = fresh_are bands r.each r.few in
     let le : length (all_blocks (fresh_bands bands)) ≤ cells_in bands = f.1 in
-    let few : cells_in bands ≤ 2 ^ 20 = r.few in
+    let few : cells_in bands ≤ most_blocks = r.few in
     record { bands = f.0; few = omega arith }
 
 -- ---- a block among all

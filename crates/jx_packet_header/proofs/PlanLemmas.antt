@@ -20,6 +20,7 @@ use Rattle.jx_packet_header.proofs.CursorLemmas.{cursor_more}
 use Rattle.jx_packet_header.proofs.FreshLemmas.{some_cells, unknown_at}
 use Rattle.jx_packet_header.proofs.WriteLemmas.{due_split}
 use Rattle.jx_packet_header.specs.Writable.{IsDue, IsWrites, AreDue, tolds_of, head_of, heads_of, AreFirst, AllFew, AllBytes, HeaderDone, AreMade, leaf_at, all_passes, passes_from}
+use Rattle.jx_base.specs.Limits.{most_blocks}
 
 -- ---- a list at a place
 pub record Place (A : Type 0) (xs : List A) (at : ℕ) (y x : A) : Type 0 where
@@ -222,7 +223,7 @@ zero_at n i = elim (cases_lt i n) [
     past : n ≤ i → get_or zeros i 0 ≡ 0
     past ge = let e : length zeros ≡ n = length-replicate n 0 in get_or_past zeros i 0 (omega arith)
 
-fresh_due : (layers : ℕ) (b : BandCells) (leaves : List Leafed) → IsBandCells b → 0 < b.wide → b.wide * b.high ≤ 2 ^ 20 → length leaves ≡ b.wide * b.high → AllFew leaves → AllBytes leaves → IsWrites 0 leaves (fresh_writes layers b leaves)
+fresh_due : (layers : ℕ) (b : BandCells) (leaves : List Leafed) → IsBandCells b → 0 < b.wide → b.wide * b.high ≤ most_blocks → length leaves ≡ b.wide * b.high → AllFew leaves → AllBytes leaves → IsWrites 0 leaves (fresh_writes layers b leaves)
 fresh_due layers b leaves is lt few all f bytes = record {
   are = record {
     shape = record { some = some_cells b is lt; few = few };
@@ -259,7 +260,7 @@ drop_get : (bands : List BandCells) (at : ℕ) (d : BandCells) → at < length b
 drop_get bands at d lt = (place bands at (get_or bands at d) (get_or bands at d) lt (get_or_default bands at d (get_or bands at d) lt)).here
 
 pub making_next : (layers at base : ℕ) (bands : List BandCells) (leaves : List Leafed) (made : List Writes) (y : Writes) (d : BandCells) → Making layers at base bands leaves made → at < length bands → IsBandCells (get_or bands at d) →
-    0 < (get_or bands at d).wide → (get_or bands at d).wide * (get_or bands at d).high ≤ 2 ^ 20 → AllFew leaves → AllBytes leaves →
+    0 < (get_or bands at d).wide → (get_or bands at d).wide * (get_or bands at d).high ≤ most_blocks → AllFew leaves → AllBytes leaves →
     y ≡ fresh_writes layers (get_or bands at d) (take ((get_or bands at d).wide * (get_or bands at d).high) (drop base leaves)) →
     Making layers (at + 1) (base + (get_or bands at d).wide * (get_or bands at d).high) bands leaves (made ++ y ∷ [])
 making_next layers at base bands leaves made y d m lt ok some few f bytes y_is =

@@ -1,10 +1,11 @@
 -- A precinct before its first packet.
-use Rattle.std.specs.Prelude.{◌≡◌, ℕ, ◌+◌, ◌*◌, ◌^◌, ◌≤◌, ◌==◌, ◌⊎◌, List, [], ◌∷◌, ◌++◌, length, replicate, if◌then◌else◌}
+use Rattle.std.specs.Prelude.{◌≡◌, ℕ, ◌+◌, ◌*◌, ◌≤◌, ◌==◌, ◌⊎◌, List, [], ◌∷◌, ◌++◌, length, replicate, if◌then◌else◌}
 use Rattle.jx_tagtree.specs.TagTree.{fresh}
 use Rattle.jx_packet_header.specs.declared.BandCells.{BandCells}
 use Rattle.jx_packet_header.specs.declared.known.Known.{Known}
 use Rattle.jx_packet_header.specs.Packet.{Cells, State, unknown_block}
 use Rattle.jx_packet_header.specs.Kept.{AreBands}
+use Rattle.jx_base.specs.Limits.{most_blocks}
 
 -- how many blocks bands have
 abbrev pub cells_in : List BandCells → ℕ
@@ -23,7 +24,7 @@ AreBandCells (b ∷ bands) = IsBandCells b × AreBandCells bands
 -- the bands that a precinct may have
 pub record CellsInRange (bands : List BandCells) : Type 0 where
   pub each : AreBandCells bands
-  pub few : cells_in bands ≤ 2 ^ 20
+  pub few : cells_in bands ≤ most_blocks
 
 -- a band of which no header has told anything
 abbrev pub fresh_cells : BandCells → Cells
@@ -45,4 +46,4 @@ all_blocks (cells ∷ bands) = cells.blocks ++ all_blocks bands
 -- a precinct that was not given up
 pub record IsState (k : State) : Type 0 where
   pub bands : AreBands k.bands
-  pub few : length (all_blocks k.bands) ≤ 2 ^ 20
+  pub few : length (all_blocks k.bands) ≤ most_blocks

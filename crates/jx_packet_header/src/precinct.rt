@@ -9,6 +9,7 @@ ghost use Rattle.jx_packet_header.specs.Kept.{IsBand, AreBands};
 ghost use Rattle.jx_packet_header.specs.Said.{Refuses, BandsSaid, HeaderSaid, HasCause, OnlyPlanes, OnlyMemory};
 ghost use Rattle.jx_packet_header.specs.Precinct.{CellsInRange, IsBandCells, cells_in, fresh_cells, fresh_state, all_blocks, IsState};
 ghost use Rattle.jx_packet_header.specs.declared.HeaderPart.{HeaderPart};
+ghost use Rattle.jx_base.specs.Limits.{most_blocks};
 
 use crate::band::{Band, read_band};
 use crate::words::flag;
@@ -40,7 +41,7 @@ impl Model for Precinct {
 pub(crate) fn fresh_band(alloc: Global, cells: BandCells) -> Result<Band, NoMemory>
     requires some { 0 < cells.wide }
     requires is { IsBandCells cells }
-    requires few { cells.wide * cells.high ≤ 2 ^ 20 }
+    requires few { cells.wide * cells.high ≤ most_blocks }
     ensures { IfOk result (λ band. band ≡ fresh_cells cells) }
 {
     let unknown = Known {
@@ -67,7 +68,7 @@ fn read_bands(
     parts: &mut Vec<HeaderPart>,
 ) -> Result<(), HeadFault>
     requires bands { AreBands bands.old.items }
-    requires blocks { length (all_blocks bands.old.items) ≤ 2 ^ 20 }
+    requires blocks { length (all_blocks bands.old.items) ≤ most_blocks }
     requires few { (frame bits.old).total < 2 ^ 67 }
     ensures ok { OnOk result (BandsSaid (scan_bands style.bits layer 0 bands.old.items (to_come bits.old)) parts.old.items parts.new.items bands.new.items (to_come bits.new)) }
     ensures kept { OnOk result (AreBands bands.new.items) }
@@ -99,7 +100,7 @@ fn read_told(
 ) -> Result<(), HeadFault>
     requires next { next.old ≡ layer }
     requires bands { AreBands bands.old.items }
-    requires blocks { length (all_blocks bands.old.items) ≤ 2 ^ 20 }
+    requires blocks { length (all_blocks bands.old.items) ≤ most_blocks }
     requires few { (frame bits.old).total < 2 ^ 67 }
     ensures ok { OnOk result (HeaderSaid (scan_header (record { style = style.bits; layer = next.old; bands = bands.old.items }) (to_come bits.old)) parts.old.items parts.new.items
         (record { style = style.bits; layer = next.new; bands = bands.new.items }) (to_come bits.new)) }
@@ -122,7 +123,7 @@ fn read_told(
 
 impl Precinct {
     /// A precinct of which no packet was read. Its bands have `wide` by `high` blocks, both 0 or both at
-    /// least 1 and 2^20 in all, and at most 255 planes.
+    /// least 1 and 2^22 in all, and at most 255 planes.
     pub fn new(alloc: Global, bands: &[BandCells], style: Style) -> Result<Precinct, NoMemory>
         requires { CellsInRange bands.now }
         ensures fresh { IfOk result (λ p. p ≡ fresh_state style.bits bands.now) }

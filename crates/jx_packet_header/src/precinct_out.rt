@@ -7,6 +7,7 @@ ghost use Rattle.jx_packet_header.specs.Leafs.{leaf_of};
 ghost use Rattle.jx_packet_header.specs.Writable.{AreDue, BandsDone, AllFew, AllBytes, HeaderDone, AreMade, IsRising, AreRising};
 ghost use Rattle.jx_packet_header.specs.LeavesFit.{LeavesFit, LeavesInRange, fresh_writes, parts_at, HasShort, AllShort};
 ghost use Rattle.jx_packet_header.specs.ReadBack.{IsOneReading};
+ghost use Rattle.jx_base.specs.Limits.{most_blocks};
 
 use crate::band_out::{BandOut, write_band};
 use crate::{BandCells, Known, Leaf, LeafPart};
@@ -75,7 +76,7 @@ fn fresh_band(
 ) -> Result<BandOut, NoMemory>
     requires some { 0 < cells.wide }
     requires is { IsBandCells cells }
-    requires few { cells.wide * cells.high ≤ 2 ^ 20 }
+    requires few { cells.wide * cells.high ≤ most_blocks }
     requires all { length leaves.now ≡ cells.wide * cells.high }
     ensures { IfOk result (λ band. band ≡ fresh_writes layers cells (map leaf_of leaves.now)) }
 {

@@ -43,6 +43,7 @@ use Rattle.jx_plan.proofs.RangeLemmas.{written_in_range}
 use Rattle.jx_layers.proofs.CausalLemmas.{none_at}
 use Rattle.jx_layers.proofs.FactLemmas.{layers_most}
 use Rattle.jx_plan.proofs.StreamLemmas.{tile_number_stays}
+use Rattle.jx_base.specs.Limits.{most_blocks, most_bytes}
 
 -- ---- the greatest number of layers
 pub some_tile : (c : Canvas) → CanvasInRange c → 0 < tile_count c
@@ -72,8 +73,8 @@ sound_at blocks n b sound at inside = subst IsSound (get_or_from_slice_get block
 not_passed : (found most : ℕ) → passed 5 found (nat_lt most found) ≡ None → found ≤ most
 not_passed found most h = grind (arith, nat_tests)
 
-pub few_blocks : (s : Stream) (blocks : List Block) → MayBePlanned s blocks → length blocks ≤ 2 ^ 20
-few_blocks s blocks may = omega (arith, may.blocks_are.all, not_passed (block_total s) (2 ^ 20) (blocks_pass s may.totals))
+pub few_blocks : (s : Stream) (blocks : List Block) → MayBePlanned s blocks → length blocks ≤ most_blocks
+few_blocks s blocks may = omega (arith, may.blocks_are.all, not_passed (block_total s) (most_blocks) (blocks_pass s may.totals))
 
 -- it keeps its causal bit within planes
 pub whole_at : (style : Option Style) (blocks : List Block) (n : ℕ) (b : Block) → first_broken style blocks ≡ None → slice_get blocks n ≡ Some b → n < length blocks → breaks_plane style b ≡ false
@@ -108,7 +109,7 @@ few_made w layers s other is few t inside =
     subst (λ (x : Stream). HasFewParts w.marks.parts x t) is (few t there)
 
 -- ---- what was read may be planned
-pub gathered_may : (b : List ℕ) (s : Stream) (blocks : List Block) → IsRead b s → length b ≤ 2 ^ 28 → totals_fault s ≡ None → IsGathered b s blocks → MayBePlanned s blocks
+pub gathered_may : (b : List ℕ) (s : Stream) (blocks : List Block) → IsRead b s → length b ≤ most_bytes → totals_fault s ≡ None → IsGathered b s blocks → MayBePlanned s blocks
 gathered_may b s blocks read fits totals gathered = record {
   headers = read_stands b s read;
   range = read_in_range b s read;

@@ -45,6 +45,7 @@ ghost use Rattle.jx_layers.specs.Rule.{Rule};
 ghost use Rattle.jx_layers.specs.Rule.Rule.{Keep};
 ghost use Rattle.jx_options.specs.declared.PartChoice.TheVariants as part_choice;
 ghost use Rattle.jx_plan.specs.declared.faults.PlanFault.TheVariants as plan_fault;
+ghost use Rattle.jx_base.specs.Limits.{most_bytes};
 
 use jx_codeblock::laws::{written_in_layers, written_in_own_layers};
 use jx_layers::laws::{blocks_are_written, crowds_are_told, jobs_have_these_ends};
@@ -205,7 +206,7 @@ pub fn written_headers_are_plain()
 
 /// A stream that was read may be planned with the blocks that were gathered of it.
 pub fn gathered_may_be_planned()
-    ensures { (b : List ℕ) (s : Stream) (blocks : List Block) → IsRead b s → length b ≤ 2 ^ 28 → totals_fault s ≡ None → IsGathered b s blocks → MayBePlanned s blocks }
+    ensures { (b : List ℕ) (s : Stream) (blocks : List Block) → IsRead b s → length b ≤ most_bytes → totals_fault s ≡ None → IsGathered b s blocks → MayBePlanned s blocks }
 {}
 
 /// By a rule a stream has one answer, but for want of memory: nothing is in the way of its plan, or there is one cause for which nothing is

@@ -1,6 +1,6 @@
 //! A planned codestream.
 
-ghost use Rattle.std.specs.Prelude.{◌≡◌, ◌<◌, ◌≤◌, ◌+◌, ◌^◌, ℕ, true, false, length};
+ghost use Rattle.std.specs.Prelude.{◌≡◌, ◌<◌, ◌≤◌, ◌+◌, ℕ, true, false, length};
 ghost use Rattle.jx_geom.specs.Counts.{tile_blocks};
 ghost use Rattle.jx_geom.specs.Numbering.{blocks_below};
 ghost use Rattle.jx_geom.specs.Rects.{tile_rect};
@@ -8,6 +8,7 @@ ghost use Rattle.jx_codestream.specs.First.{canvas_of, tile_number};
 ghost use Rattle.jx_codestream.specs.Shapes.{shapes_of};
 ghost use Rattle.jx_plan.specs.Plan.{IsPlan, headers_of};
 ghost use Rattle.jx_plan.specs.TileJobs.{AreJobsBelow, AreTileJobs};
+ghost use Rattle.jx_base.specs.Limits.{most_blocks};
 
 use jx_base::Block;
 use jx_codeblock::Job;
@@ -124,7 +125,7 @@ impl<'a> OutStream<'a> {
         requires { tile ≤ tile_number self.now.stream.siz }
         ensures count { result ≡ blocks_below (canvas_of self.now.stream.siz) (shapes_of self.now.stream) tile }
         ensures below { AreJobsBelow self.now.jobs tile result }
-        ensures few { result ≤ 2 ^ 20 }
+        ensures few { result ≤ most_blocks }
         ensures plan { IsPlan self.now }
     {
         jobs_below(self.jobs(), tile) as u32
@@ -137,7 +138,7 @@ impl<'a> OutStream<'a> {
         ensures own { AreTileJobs self.now.jobs tile result.0 result.1 }
         ensures first { result.0 ≡ blocks_below (canvas_of self.now.stream.siz) (shapes_of self.now.stream) tile }
         ensures count { result.1 ≡ result.0 + tile_blocks (tile_rect (canvas_of self.now.stream.siz) tile) (shapes_of self.now.stream tile) }
-        ensures few { result.1 ≤ 2 ^ 20 }
+        ensures few { result.1 ≤ most_blocks }
         ensures plan { IsPlan self.now }
     {
         let tile = u32::from(tile);

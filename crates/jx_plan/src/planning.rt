@@ -1,6 +1,6 @@
 //! The plan by the first of some planners of layers that serves the words.
 
-ghost use Rattle.std.specs.Prelude.{◌≡◌, ◌<◌, ◌≤◌, ◌^◌, ℕ, Option, length, slice_get, None, Some, IfErr, IfOk, IfSome, MatchResult, OnOk};
+ghost use Rattle.std.specs.Prelude.{◌≡◌, ◌<◌, ◌≤◌, ℕ, Option, length, slice_get, None, Some, IfErr, IfOk, IfSome, MatchResult, OnOk};
 ghost use Rattle.std.specs.List.{All};
 ghost use Rattle.std.specs.Option.{option_map};
 ghost use Rattle.jx_base.specs.Sound.{IsSound};
@@ -16,6 +16,7 @@ ghost use Rattle.jx_plan.specs.Steps.{IsTooMuch};
 ghost use Rattle.jx_options.specs.Wanted.{MayBeWanted};
 ghost use Rattle.jx_codeblock.specs.declared.job.Job.{Job as job_asked};
 ghost use Rattle.jx_codeblock.specs.declared.LayerEnd.{LayerEnd};
+ghost use Rattle.jx_base.specs.Limits.{most_blocks};
 
 use crate::counting::{check_written, plan_headers};
 use crate::fitting::check_precincts;
@@ -47,7 +48,7 @@ fn plan_by<'a>(
     facts: &StreamFacts,
     planner: &mut Box<dyn LayerPlanner>,
 ) -> Result<(u16, Vec<Job<'a>>), PlanFault>
-    requires few { length blocks.now ≤ 2 ^ 20 }
+    requires few { length blocks.now ≤ most_blocks }
     requires sound { All IsSound blocks.now }
     ensures planned { IfOk result (λ p. ArePlanned style (rule_of planner.old words.now facts.now) facts.now blocks.entry.now p.0 p.1.items) }
     ensures count { IfOk result (λ p. length p.1.items ≡ length blocks.entry.now) }

@@ -30,6 +30,7 @@ use Rattle.jx_reduce.proofs.LevelLemmas.{IsLower, low_precinct_count}
 use Rattle.jx_reduce.proofs.ListLemmas.{filter_few}
 use Rattle.jx_reduce.proofs.NameLemmas.{all_long, names_of_all}
 use Rattle.jx_reduce.proofs.ParameterLemmas.{are_lower, layers_same}
+use Rattle.jx_base.specs.Limits.{most_blocks}
 
 -- ---- sums
 sum_grows : (f : ℕ → ℕ) (m n : ℕ) → m ≤ n → sum_below f m ≤ sum_below f n
@@ -120,8 +121,8 @@ module _ (d : ℕ) (s : Stream) (clear : IsClear d s) (stand : HeadersStand s) w
   pub totals_left : totals_fault s ≡ None → totals_fault (stream_left d s) ≡ None
   unfolding totals_fault
   totals_left h =
-      let both = neither (passed 5 (block_total s) (nat_lt (2 ^ 20) (block_total s))) (passed 6 (packet_total s) (nat_lt (2 ^ 22) (packet_total s))) h in
-      let few : block_total s ≤ 2 ^ 20 = not_passed 5 (block_total s) (2 ^ 20) both.0 in
+      let both = neither (passed 5 (block_total s) (nat_lt (most_blocks) (block_total s))) (passed 6 (packet_total s) (nat_lt (2 ^ 22) (packet_total s))) h in
+      let few : block_total s ≤ most_blocks = not_passed 5 (block_total s) (most_blocks) both.0 in
       let less : packet_total s ≤ 2 ^ 22 = not_passed 6 (packet_total s) (2 ^ 22) both.1 in
-      both_none (passed 5 (block_total (stream_left d s)) (nat_lt (2 ^ 20) (block_total (stream_left d s)))) (passed 6 (packet_total (stream_left d s)) (nat_lt (2 ^ 22) (packet_total (stream_left d s))))
-      (within 5 (block_total (stream_left d s)) (2 ^ 20) (omega (arith, blocks_less, few))) (within 6 (packet_total (stream_left d s)) (2 ^ 22) (omega (arith, packets_less, less)))
+      both_none (passed 5 (block_total (stream_left d s)) (nat_lt (most_blocks) (block_total (stream_left d s)))) (passed 6 (packet_total (stream_left d s)) (nat_lt (2 ^ 22) (packet_total (stream_left d s))))
+      (within 5 (block_total (stream_left d s)) (most_blocks) (omega (arith, blocks_less, few))) (within 6 (packet_total (stream_left d s)) (2 ^ 22) (omega (arith, packets_less, less)))

@@ -1,5 +1,5 @@
 //! How a store is made, with a pass for each worker.
-ghost use Rattle.std.specs.Prelude.{◌≡◌, ◌≢◌, ℕ, ◌+◌, ◌*◌, ◌^◌, ◌<◌, ◌≤◌, All, IfOk, None, Some, [], ◌∷◌, map, length, slice_get, slice_index_or, vec_len, vec_capacity};
+ghost use Rattle.std.specs.Prelude.{◌≡◌, ◌≢◌, ℕ, ◌+◌, ◌*◌, ◌<◌, ◌≤◌, All, IfOk, None, Some, [], ◌∷◌, map, length, slice_get, slice_index_or, vec_len, vec_capacity};
 ghost use Rattle.std.specs.Global.{Vec};
 ghost use Rattle.std.specs.List.{sum};
 ghost use Rattle.jx_store.specs.declared.event.Taped.{Taped};
@@ -8,6 +8,7 @@ ghost use Rattle.jx_store.specs.Order.{numbers};
 ghost use Rattle.jx_ring.specs.declared.view.Place.TheVariants.{Empty, Tape};
 ghost use Rattle.jx_ring.specs.Passes.{Blank, Row};
 ghost use Rattle.jx_ring.specs.Rule.{first_view, counting_down};
+ghost use Rattle.jx_base.specs.Limits.{most_blocks, most_bytes};
 
 use crate::ring::{Limits, RingStore, RingTable};
 use crate::view::{Pass, Place, RingView};
@@ -19,8 +20,8 @@ use std::marker::PhantomData;
 
 impl<V: Work, N: Bounds<V::Job>> RingStore<V, N> {
     /// A store of the numbers from `first` on, one for each job and size, and a pass for each
-    /// worker. There is at least one job, the numbers end at 2^20, the sizes sum to at most 2^28,
-    /// `window` is 1 to 1,024, `most` 1 to 2^28 and `workers` 1 to 64. All room that the store will
+    /// worker. There is at least one job, the numbers end at 2^22, the sizes sum to at most 2^32 - 1,
+    /// `window` is 1 to 1,024, `most` 1 to 2^32 - 1 and `workers` 1 to 64. All room that the store will
     /// need is taken here.
     pub fn new(
         alloc: Global,
@@ -32,10 +33,10 @@ impl<V: Work, N: Bounds<V::Job>> RingStore<V, N> {
         workers: u32,
     ) -> Result<(RingStore<V, N>, Vec<Pass<V, N>>), NoMemory>
         requires bounds { (N.setup ≡ record { first = first; sizes = sizes.now; window = window; most = most }) × (N.workers ≡ workers) × (N.jobs ≡ jobs.now) }
-        requires count { (0 < length sizes.now) × (first + length sizes.now ≤ 2 ^ 20) × (length jobs.now ≡ length sizes.now) }
-        requires sizes { sum sizes.now ≤ 2 ^ 28 }
+        requires count { (0 < length sizes.now) × (first + length sizes.now ≤ most_blocks) × (length jobs.now ≡ length sizes.now) }
+        requires sizes { sum sizes.now ≤ most_bytes }
         requires window { (0 < window) × (window ≤ 1024) }
-        requires most { (0 < most) × (most ≤ 2 ^ 28) }
+        requires most { (0 < most) × (most ≤ most_bytes) }
         requires workers { (0 < workers) × (workers ≤ 64) }
         ensures count { IfOk result (λ r. vec_len r.1 ≡ workers) }
         ensures workers { IfOk result (λ r. map (λ p. p.worker) r.1.items ≡ numbers 0 workers) }
@@ -64,7 +65,7 @@ impl<V: Work, N: Bounds<V::Job>> RingStore<V, N> {
         workers: u32,
     ) -> Result<(RingTable<V, N>, Seat<Place<V>, RingView>, Vec<Pass<V, N>>), NoMemory>
         requires bounds { (first ≡ N.setup.first) × (window ≡ N.setup.window) × (count ≡ length N.setup.sizes) × (workers ≡ N.workers) }
-        requires sizes { (first ≤ 2 ^ 20) × (count ≤ 2 ^ 20) × (0 < window) × (0 < workers) }
+        requires sizes { (first ≤ most_blocks) × (count ≤ most_blocks) × (0 < window) × (0 < workers) }
         ensures counts { IfOk result (λ r. (r.0.shared.table_id.words ≡ window + 2) × (r.0.shared.table_id.slots ≡ window + 1)) }
         ensures seat { IfOk result (λ r. (r.1.table_id ≡ r.0.shared.table_id) × (r.1.me ≡ (first_view N.setup workers, []))) }
         ensures room { IfOk result (λ r. (r.2.items ≡ []) × (workers ≤ vec_capacity r.2)) }
@@ -83,7 +84,7 @@ impl<V: Work, N: Bounds<V::Job>> RingStore<V, N> {
     ) -> Result<(RingTable<V, N>, Seat<Place<V>, RingView>, Vec<Pass<V, N>>), NoMemory>
         requires words { Blank N.setup.first window words.now }
         requires bounds { (window ≡ N.setup.window) × (count ≡ length N.setup.sizes) × (workers ≡ N.workers) }
-        requires sizes { (count ≤ 2 ^ 20) × (0 < window) × (0 < workers) }
+        requires sizes { (count ≤ most_blocks) × (0 < window) × (0 < workers) }
         ensures counts { IfOk result (λ r. (r.0.shared.table_id.words ≡ window + 2) × (r.0.shared.table_id.slots ≡ window + 1)) }
         ensures seat { IfOk result (λ r. (r.1.table_id ≡ r.0.shared.table_id) × (r.1.me ≡ (first_view N.setup workers, []))) }
         ensures room { IfOk result (λ r. (r.2.items ≡ []) × (workers ≤ vec_capacity r.2)) }
@@ -132,7 +133,7 @@ impl<V: Work, N: Bounds<V::Job>> RingStore<V, N> {
 
 // NEXT, DRAIN and the words of the slots.
 fn first_words(alloc: Global, first: u32, window: u32) -> Result<Vec<u64>, NoMemory>
-    requires { first ≤ 2 ^ 20 }
+    requires { first ≤ most_blocks }
     ensures { IfOk result (λ w. Blank first window w.items) }
 {
     let mut words = Vec::with_capacity(alloc, window as usize + 2)?;
@@ -146,7 +147,7 @@ fn first_words(alloc: Global, first: u32, window: u32) -> Result<Vec<u64>, NoMem
 
 // The empty slots, and the tape with room for all entries.
 fn first_slots<V: Drop>(alloc: Global, window: u32, count: usize) -> Result<Vec<Place<V>>, NoMemory>
-    requires { count ≤ 2 ^ 20 }
+    requires { count ≤ most_blocks }
     ensures { IfOk result (λ s. Row window count s.items) }
 {
     let mut slots = Vec::with_capacity(alloc, window as usize + 1)?;

@@ -1,5 +1,5 @@
 //! The tape, once all passes are back.
-ghost use Rattle.std.specs.Prelude.{◌≡◌, ℕ, ◌+◌, ◌^◌, ◌<◌, ◌≤◌, All, Any, Contains, List, None, length, map, slice_get, Some, sum_by, vec_len};
+ghost use Rattle.std.specs.Prelude.{◌≡◌, ℕ, ◌+◌, ◌<◌, ◌≤◌, All, Any, Contains, List, None, length, map, slice_get, Some, sum_by, vec_len};
 ghost use Rattle.std.specs.Mem.Slots.{slots_items, slots_len, slots_filled, IsFull};
 ghost use Rattle.jx_store.specs.declared.event.Taped.{Taped};
 ghost use Rattle.jx_store.specs.declared.work.Named.{Named};
@@ -10,6 +10,7 @@ ghost use Rattle.jx_ring.specs.declared.view.Taken.{Taken};
 ghost use Rattle.jx_ring.specs.Claims.{taken};
 ghost use Rattle.jx_ring.specs.Closing.{IsLast, IsWhole, Shut};
 ghost use Rattle.jx_ring.specs.Passes.{IsSameSeat};
+ghost use Rattle.jx_base.specs.Limits.{most_blocks};
 
 use crate::ring::RingStore;
 use crate::view::{Pass, Place, RingView};
@@ -69,7 +70,7 @@ impl<V: Work, N: Bounds<V::Job>> RingStore<V, N> {
     // The tape with the entries that are parked behind it, out of a closed table.
     fn collect(closed: Closed<Place<V>, Global>, drained: u32, window: u32) -> Vec<Entry<V>>
         requires slots { (slots_len closed.slots ≡ window + 1) × IsFull closed.slots }
-        requires sizes { (drained ≤ 2 ^ 20) × (0 < window) × (window ≤ 1024) × (window ≡ N.setup.window) }
+        requires sizes { (drained ≤ most_blocks) × (0 < window) × (window ≤ 1024) × (window ≡ N.setup.window) }
         requires shut { (claims : List Taken) × (seen : ℕ) × Shut N.setup (IsOf V.number V.job V.bad N.setup.first N.jobs) claims seen drained (slots_items closed.slots) }
         ensures { (claims : List Taken) (seen : ℕ) → Shut N.setup (IsOf V.number V.job V.bad N.setup.first N.jobs) claims seen drained (slots_items closed.slots) → IsWhole N.setup (IsOf V.number V.job V.bad N.setup.first N.jobs) claims seen result.items }
     {

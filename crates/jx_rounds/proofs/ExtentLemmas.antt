@@ -19,6 +19,7 @@ use Rattle.jx_tier2_writer.specs.Tile.{AreMade, IsMade, blocks_in, first_block}
 use Rattle.jx_rounds.specs.MadeRounds.{AreCounts, AreOfBlocks, AreOfRound, AreUpTo, IsExtent}
 use Rattle.jx_rounds.specs.Rounds.{BeginsRound, IsInRound, IsPlace}
 use Rattle.jx_rounds.proofs.FrontLemmas.{block_next, blocks_are, jobs_few, round_full}
+use Rattle.jx_base.specs.Limits.{most_blocks}
 
 -- ---- no tile yet, and one tile more
 pub of_none : (p : Plan) (tile : ℕ) → tile < tile_number p.stream.siz → AreOfRound p tile [] 0
@@ -96,7 +97,7 @@ extent_few p tile block blocks counts plan extent is =
     let grows : first_block p (tile + length counts) ≤ first_block p (tile_number p.stream.siz) = sum_below_grows (blocks_in p) (tile + length counts) (tile_number p.stream.siz) extent.of.counts_are.inside in
     omega (arith, is, extent.of.blocks_are, grows, blocks_are p.stream, plan.all, plan.may.blocks_are.all)
 
-pub extent_small : (p : Plan) (tile block blocks : ℕ) (counts : List ℕ) → IsPlan p → IsExtent p tile counts blocks → block ≡ first_block p tile → block + blocks ≤ 1048576
+pub extent_small : (p : Plan) (tile block blocks : ℕ) (counts : List ℕ) → IsPlan p → IsExtent p tile counts blocks → block ≡ first_block p tile → block + blocks ≤ most_blocks
 extent_small p tile block blocks counts plan extent is = omega (arith, extent_few p tile block blocks counts plan extent is, jobs_few p plan)
 
 -- ---- the blocks of a tile among those of a round

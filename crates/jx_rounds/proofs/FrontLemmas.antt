@@ -27,6 +27,7 @@ use Rattle.jx_rounds.specs.Sent.{PartSent, sent_from, sent_of}
 use Rattle.jx_rounds.specs.Rounds.{BeginsRound, IsInRound, IsRightTile, IsShortFront, IsSpoiledFrom, IsUnmade, IsUnmadeTile, LeadOn, blocks_of, most_of_part, with_parts}
 use Rattle.jx_rounds.specs.declared.halt.Halt.{Halt}
 use Rattle.jx_rounds.specs.declared.halt.Halt.TheVariants as halt
+use Rattle.jx_base.specs.Limits.{most_blocks}
 
 -- ---- lengths of tile-parts
 pub short_at_most : (parts : List TilePart) → AreAtMost most_of_part parts → AreShort parts
@@ -139,14 +140,14 @@ first_none : (first later : Option StreamFault) → option_or first later ≡ No
 first_none None later h = refl
 first_none (Some f) later h = absurd (cc)
 
-totals_few : (s : Stream) → totals_fault s ≡ None → block_total s ≤ 2 ^ 20
+totals_few : (s : Stream) → totals_fault s ≡ None → block_total s ≤ most_blocks
 unfolding totals_fault
 totals_few s h =
-    not_passed 5 (block_total s) (2 ^ 20) (first_none (passed 5 (block_total s) (nat_lt (2 ^ 20) (block_total s))) (passed 6 (packet_total s) (nat_lt (2 ^ 22) (packet_total s))) h)
+    not_passed 5 (block_total s) (most_blocks) (first_none (passed 5 (block_total s) (nat_lt (most_blocks) (block_total s))) (passed 6 (packet_total s) (nat_lt (2 ^ 22) (packet_total s))) h)
 
-pub block_few : (p : Plan) (t : ℕ) → IsPlan p → t < tile_number p.stream.siz → first_block p t + blocks_in p t ≤ 1048576
+pub block_few : (p : Plan) (t : ℕ) → IsPlan p → t < tile_number p.stream.siz → first_block p t + blocks_in p t ≤ most_blocks
 block_few p t plan inside =
-    let few : block_total p.stream ≤ 1048576 = totals_few p.stream plan.may.totals in
+    let few : block_total p.stream ≤ most_blocks = totals_few p.stream plan.may.totals in
     omega (arith, sum_below_more (blocks_in p) t (tile_number p.stream.siz) inside, blocks_are p.stream, few)
 
 pub blocks_few : (p : Plan) (t : ℕ) → IsPlan p → t < tile_number p.stream.siz → first_block p t + blocks_in p t ≤ length p.jobs
@@ -182,12 +183,12 @@ pub comps_stay : (w : Wanted) (layers : ℕ) (s : Stream) → length (headers_wi
 unfolding stream_written
 comps_stay w layers s = refl
 
-pub jobs_few : (p : Plan) → IsPlan p → length p.jobs ≤ 1048576
+pub jobs_few : (p : Plan) → IsPlan p → length p.jobs ≤ most_blocks
 jobs_few p plan =
-    let few : block_total p.stream ≤ 1048576 = totals_few p.stream plan.may.totals in
+    let few : block_total p.stream ≤ most_blocks = totals_few p.stream plan.may.totals in
     omega (arith, few, plan.all, plan.may.blocks_are.all)
 
-pub planned_few : (s : Stream) (blocks : List Block) → MayBePlanned s blocks → length blocks ≤ 1048576
+pub planned_few : (s : Stream) (blocks : List Block) → MayBePlanned s blocks → length blocks ≤ most_blocks
 planned_few s blocks may =
-    let few : block_total s ≤ 1048576 = totals_few s may.totals in
+    let few : block_total s ≤ most_blocks = totals_few s may.totals in
     omega (arith, few, may.blocks_are.all)

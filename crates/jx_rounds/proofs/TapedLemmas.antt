@@ -1,5 +1,5 @@
 -- From what is made of the blocks of a round to the tape of a run.
-use Rattle.std.proofs.Common.{◌≡◌, ◌∙◌, ◌<◌, ◌≤◌, ◌+◌, ◌-◌, ◌^◌, ℕ, suc, true, false, is_some, List, [], ◌∷◌, ◌++◌, length, map, take, drop, refl, ap, sym, subst, arith, inl, inr, Some, append_assoc, append-nil, length-append, length-take, slice_index_or}
+use Rattle.std.proofs.Common.{◌≡◌, ◌∙◌, ◌<◌, ◌≤◌, ◌+◌, ◌-◌, ℕ, suc, true, false, is_some, List, [], ◌∷◌, ◌++◌, length, map, take, drop, refl, ap, sym, subst, arith, inl, inr, Some, append_assoc, append-nil, length-append, length-take, slice_index_or}
 use Rattle.std.specs.List.{All, list_any, slice_get, sum}
 use Rattle.std.proofs.lemmas.List.{drop_all, drop-drop, drop-map, drop-take, length-map, map-append, take-map, take-take}
 use Rattle.std.proofs.lemmas.List.Elements.{All-append, All-cons, All-head, All-map, All-nil}
@@ -31,6 +31,7 @@ use Rattle.jx_rounds.specs.Tiles.{Round}
 use Rattle.jx_rounds.specs.declared.halt.Halt.{Halt}
 use Rattle.jx_rounds.specs.declared.halt.Halt.TheVariants as halt
 use Rattle.jx_rounds.specs.declared.tape.TapeEntry.{TapeEntry}
+use Rattle.jx_base.specs.Limits.{most_bytes}
 
 -- ---- numbers from one on: what the law of the store says of them
 pub record NumberLaws : Type 0 where
@@ -70,7 +71,7 @@ alone_is_tape laws jobs first work entries asked may alone =
     }
 
 -- jobs of which workers make something are shared
-pub shared_none : (jobs : List Job) (entries : List (Taped (Named WrittenBlock))) → list_any (λ (j : Job). is_some j.style) jobs ≡ true → sum (map size_of jobs) ≤ 2 ^ 28 → AreUnshared jobs → AreMadeAlone (up_to_bad jobs) entries
+pub shared_none : (jobs : List Job) (entries : List (Taped (Named WrittenBlock))) → list_any (λ (j : Job). is_some j.style) jobs ≡ true → sum (map size_of jobs) ≤ most_bytes → AreUnshared jobs → AreMadeAlone (up_to_bad jobs) entries
 shared_none jobs entries anew light (inl kept) = absurd (cc)
 shared_none jobs entries anew light (inr heavy) = absurd (omega (arith, light, heavy))
 

@@ -1,5 +1,5 @@
 -- Inner: a round as it is made: what is made of its code-blocks, and of which of its tiles they are.
-use Rattle.std.specs.Prelude.{◌≡◌, ◌⊎◌, ◌<◌, ◌≤◌, ◌+◌, ◌-◌, ◌^◌, ℕ, false, List, ◌++◌, drop, is_some, length, map, take, Some, slice_get}
+use Rattle.std.specs.Prelude.{◌≡◌, ◌⊎◌, ◌<◌, ◌≤◌, ◌+◌, ◌-◌, ℕ, false, List, ◌++◌, drop, is_some, length, map, take, Some, slice_get}
 use Rattle.std.specs.List.{All, concat, flat_map, list_any, sum}
 use Rattle.jx_codeblock.specs.declared.job.Job.{Job}
 use Rattle.jx_codeblock.specs.Recoded.{WrittenBlock}
@@ -13,10 +13,11 @@ use Rattle.jx_plan.specs.Plan.{Plan}
 use Rattle.jx_tier2_writer.specs.Tile.{AreMade, blocks_in, first_block}
 use Rattle.jx_rounds.specs.Rounds.{EndsRound, HasTape, IsInRound}
 use Rattle.jx_rounds.specs.declared.tape.TapeEntry.{TapeEntry}
+use Rattle.jx_base.specs.Limits.{most_bytes}
 
--- jobs that aren't shared among workers: no block is coded anew, or their pieces have over 2^28 bytes
+-- jobs that aren't shared among workers: no block is coded anew, or their pieces have over 2^32 - 1 bytes
 abbrev pub AreUnshared : List Job → Type 0
-AreUnshared jobs = (list_any (λ (j : Job). is_some j.style) jobs ≡ false) ⊎ (2 ^ 28 < sum (map size_of jobs))
+AreUnshared jobs = (list_any (λ (j : Job). is_some j.style) jobs ≡ false) ⊎ (most_bytes < sum (map size_of jobs))
 
 -- what was made of some jobs one after another, on one thread
 pub record AreMadeAlone (jobs : List Job) (entries : List (Taped (Named WrittenBlock))) : Type 0 where

@@ -1,6 +1,6 @@
 //! By whom the code-blocks of a run are made, and how.
 
-ghost use Rattle.std.specs.Prelude.{◌≡◌, ◌<◌, ◌≤◌, ◌+◌, ◌^◌, ◌↔◌, [], None, true, is_some, length, map, All, IfOk, IfSome, OnOk};
+ghost use Rattle.std.specs.Prelude.{◌≡◌, ◌<◌, ◌≤◌, ◌+◌, ◌↔◌, [], None, true, is_some, length, map, All, IfOk, IfSome, OnOk};
 ghost use Rattle.std.specs.List.{list_any, sum};
 ghost use Rattle.jx_base.specs.Pieces.{bytes_in, value_of};
 ghost use Rattle.jx_codeblock.specs.Jobs.{IsAsked};
@@ -11,6 +11,7 @@ ghost use Rattle.jx_codeblock.specs.declared.job.Job.{Job as job_asked};
 ghost use Rattle.jx_workers.specs.Tapes.{AreAsked, answer_of, size_of, up_to_bad};
 ghost use Rattle.jx_options.specs.Work.{MayBeWork};
 ghost use Rattle.jx_rounds.specs.MadeRounds.{AreMadeAlone, AreUnshared, IsTapeFrom};
+ghost use Rattle.jx_base.specs.Limits.{most_blocks, most_bytes};
 
 use jx_base::{NoMemory, Piece};
 use jx_codeblock::{BlockFault, Job, Recoded, recode};
@@ -54,9 +55,9 @@ fn left_after(room: usize, pieces: &[Piece<'_>]) -> Option<usize>
     Some(left)
 }
 
-/// Whether the pieces of the blocks have at most 2^28 bytes together.
+/// Whether the pieces of the blocks have at most 2^32 - 1 bytes together.
 fn is_light(jobs: &[Job<'_>]) -> bool
-    ensures { (result ≡ true) ↔ (sum (map size_of jobs.now) ≤ 2 ^ 28) }
+    ensures { (result ≡ true) ↔ (sum (map size_of jobs.now) ≤ most_bytes) }
 {
     let mut left = MOST_BYTES;
     for job in jobs {
@@ -175,8 +176,8 @@ fn made_by_workers<'a, R: Threads + Wait + Sync, G: Gate + Sync>(
     first: u32,
 ) -> Result<Vec<Entry<Recoded<'a>>>, NoMemory>
     requires jobs { AreAsked first jobs.now }
-    requires count { first + length jobs.now ≤ 2 ^ 20 }
-    requires sizes { sum (map size_of jobs.now) ≤ 2 ^ 28 }
+    requires count { first + length jobs.now ≤ most_blocks }
+    requires sizes { sum (map size_of jobs.now) ≤ most_bytes }
     requires work { MayBeWork crew.now.work }
     ensures { IfOk result (λ entries. IsTapeFrom jobs.entry.now first crew.now.work entries.items) }
 {
@@ -195,7 +196,7 @@ fn made_by_workers<'a, R: Threads + Wait + Sync, G: Gate + Sync>(
 }
 
 /// Makes of blocks what is asked of them, up to the first of which a segmentation symbol is wrong: by workers where one of them is coded anew and
-/// their pieces have at most 2^28 bytes, else one after another, by worker 0. `first` is the number of the first job.
+/// their pieces have at most 2^32 - 1 bytes, else one after another, by worker 0. `first` is the number of the first job.
 #[tactic(auto, using(crate::proofs::TapedLemmas::shared_none))]
 pub fn made_blocks<'a, R: Threads + Wait + Sync, G: Gate + Sync>(
     crew: &Crew<'_, R, G>,
@@ -204,7 +205,7 @@ pub fn made_blocks<'a, R: Threads + Wait + Sync, G: Gate + Sync>(
     first: u32,
 ) -> Result<Vec<Entry<Recoded<'a>>>, NoMemory>
     requires jobs { AreAsked first jobs.now }
-    requires count { first + length jobs.now ≤ 2 ^ 20 }
+    requires count { first + length jobs.now ≤ most_blocks }
     requires work { MayBeWork crew.now.work }
     ensures tape { IfOk result (λ entries. IsTapeFrom jobs.entry.now first crew.now.work entries.items) }
     ensures alone { IfOk result (λ entries. AreUnshared jobs.entry.now → AreMadeAlone (up_to_bad jobs.entry.now) entries.items) }

@@ -1,12 +1,13 @@
 //! Rounds of tiles: consecutive ones, up to the first at which a round has 4,096 code-blocks, or up to the last tile.
 
-ghost use Rattle.std.specs.Prelude.{◌≡◌, ◌<◌, ◌≤◌, ◌+◌, ◌^◌, ℕ, [], length, map, IfOk, IfErr, OnOk};
+ghost use Rattle.std.specs.Prelude.{◌≡◌, ◌<◌, ◌≤◌, ◌+◌, ℕ, [], length, map, IfOk, IfErr, OnOk};
 ghost use Rattle.jx_codestream.specs.First.{tile_number};
 ghost use Rattle.jx_tier2_writer.specs.Tile.{AreMade, blocks_in, first_block};
 ghost use Rattle.jx_options.specs.Work.{MayBeWork};
 ghost use Rattle.jx_rounds.specs.MadeRounds.{AreUpTo, IsExtent, TapesOn, entry_of};
 ghost use Rattle.jx_rounds.specs.Rounds.{BeginsRound, EndsRound, IsPlace, IsUnmade, IsUnmadeTile, LeadOn};
 ghost use Rattle.jx_rounds.specs.Sent.{sent_from};
+ghost use Rattle.jx_base.specs.Limits.{most_blocks};
 
 use crate::crew::{Crew, made_blocks};
 use crate::halt::Halt;
@@ -73,7 +74,7 @@ fn extent_of(
     ensures tile { IfOk result (λ e. e.tile ≡ tile + length e.counts.items) }
     ensures block { IfOk result (λ e. e.block ≡ block + e.blocks) }
     ensures within { IfOk result (λ e. e.block ≤ length making.now.jobs) }
-    ensures few { IfOk result (λ e. e.block ≤ 2 ^ 20) }
+    ensures few { IfOk result (λ e. e.block ≤ most_blocks) }
 {
     let _ = making.jobs();
     let mut counts = Vec::new(alloc);
@@ -96,7 +97,7 @@ fn round_blocks<'a, R: Threads + Wait + Sync, G: Gate + Sync>(
     count: u32,
 ) -> Result<Vec<Entry<Recoded<'a>>>, NoMemory>
     requires within { first + count ≤ length making.now.jobs }
-    requires few { first + count ≤ 2 ^ 20 }
+    requires few { first + count ≤ most_blocks }
     requires work { MayBeWork crew.now.work }
     ensures tape { IfOk result (λ entries. TapesOn making.now crew.now.work first (first + length entries.items) (map entry_of entries.items)) }
     ensures of { IfOk result (λ entries. AreUpTo making.now first count entries.items) }
@@ -144,7 +145,7 @@ fn push_tiles<'a, 'b>(
 ) -> Result<(), Halt>
     requires extent { IsExtent making.now tile extent.now.counts.items extent.now.blocks }
     requires tile { extent.now.tile ≡ tile + length extent.now.counts.items }
-    requires few { extent.now.blocks ≤ 2 ^ 20 }
+    requires few { extent.now.blocks ≤ most_blocks }
     requires entries { AreUpTo making.now (first_block making.now tile) extent.now.blocks entries.now }
     requires empty { tiles.old.items ≡ [] }
     ensures parts { OnOk result (LeadOn making.now tile extent.now.tile (sent_from tile tiles.new.items)) }
@@ -179,7 +180,7 @@ pub fn packed_tiles<'a, 'b>(
 ) -> Result<Vec<Packed<'a, 'b>>, Halt>
     requires extent { IsExtent making.now tile extent.now.counts.items extent.now.blocks }
     requires tile { extent.now.tile ≡ tile + length extent.now.counts.items }
-    requires few { extent.now.blocks ≤ 2 ^ 20 }
+    requires few { extent.now.blocks ≤ most_blocks }
     requires entries { AreUpTo making.now (first_block making.now tile) extent.now.blocks entries.now }
     ensures parts { IfOk result (λ tiles. LeadOn making.now tile extent.now.tile (sent_from tile tiles.items)) }
     ensures count { IfOk result (λ tiles. tile + length tiles.items ≡ extent.now.tile) }
@@ -207,7 +208,7 @@ pub fn made_round<'a, R: Threads + Wait + Sync, G: Gate + Sync>(
     requires work { MayBeWork crew.now.work }
     ensures extent { IfOk result (λ r. IsExtent making.now tile r.extent.counts.items r.extent.blocks) }
     ensures tile { IfOk result (λ r. r.extent.tile ≡ tile + length r.extent.counts.items) }
-    ensures few { IfOk result (λ r. r.extent.blocks ≤ 2 ^ 20) }
+    ensures few { IfOk result (λ r. r.extent.blocks ≤ most_blocks) }
     ensures entries { IfOk result (λ r. AreUpTo making.now block r.extent.blocks r.entries.items) }
     ensures later { IfOk result (λ r. tile < r.extent.tile) }
     ensures place { IfOk result (λ r. IsPlace making.now r.extent.tile r.extent.block) }

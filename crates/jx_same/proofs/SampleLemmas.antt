@@ -35,6 +35,7 @@ use Rattle.jx_same.specs.Items.{rect_in}
 use Rattle.jx_same.specs.Sides.{Covers, HasBandOf, IsSide, SideValue, geometry_at, place_in}
 use Rattle.jx_same.proofs.FindLemmas.{find_only, none_first}
 use Rattle.jx_same.proofs.PlaceLemmas.{one_block}
+use Rattle.jx_base.specs.Limits.{most_blocks}
 
 -- ---- a place that lies in a block
 is_in_to : (s : Span) (n : ℕ) → is_in s n ≡ true → InSpan s n
@@ -100,9 +101,9 @@ lies_from p b h =
     (and_from (is_in b.rect.x p.x) (is_in b.rect.y p.y) (is_in_from b.rect.x p.x h.place.across) (is_in_from b.rect.y p.y h.place.down)))
 
 -- ---- a block at its number
-few_blocks : (s : Stream) → totals_fault s ≡ None → block_total s ≤ 2 ^ 20
+few_blocks : (s : Stream) → totals_fault s ≡ None → block_total s ≤ most_blocks
 unfolding totals_fault
-few_blocks s none = not_passed 5 (block_total s) (2 ^ 20) (none_first (passed 5 (block_total s) (nat_lt (2 ^ 20) (block_total s))) (passed 6 (packet_total s) (nat_lt (2 ^ 22) (packet_total s))) none)
+few_blocks s none = not_passed 5 (block_total s) (most_blocks) (none_first (passed 5 (block_total s) (nat_lt (most_blocks) (block_total s))) (passed 6 (packet_total s) (nat_lt (2 ^ 22) (packet_total s))) none)
 
 abbrev pub number_of : Stream → BlockName → ℕ
 number_of s n = block_number (canvas_of s.siz) (shapes_of s) n
@@ -214,7 +215,7 @@ pub record Lies (v : SideValue) (n : BlockName) (number : ℕ) : Type 0 where
   pub there : IsAt v.stream v.blocks n block
   pub at : slice_get v.blocks number ≡ Some block
   pub inside : number < length v.blocks
-  pub few : length v.blocks ≤ 2 ^ 20
+  pub few : length v.blocks ≤ most_blocks
 
 pub lies : (v : SideValue) (n : BlockName) (first k : ℕ) (g : Geometry) → IsSide v → first ≡ blocks_below (canvas_of v.stream.siz) (shapes_of v.stream) v.tile
     → k ≡ number_in_tile g n → g ≡ geometry v.stream v.tile → HasBlock g n → Lies v n (first + k)
@@ -234,7 +235,7 @@ lies v n first k g side before own is has =
 -- how many blocks there are up to the end of a tile
 pub record Behind (s : Stream) (t number : ℕ) : Type 0 where
   pub value : number ≡ blocks_below (canvas_of s.siz) (shapes_of s) (t + 1)
-  pub few : number ≤ 2 ^ 20
+  pub few : number ≤ most_blocks
 
 pub behind_is : (s : Stream) (t first count : ℕ) → totals_fault s ≡ None → t < tile_number s.siz → first ≡ blocks_below (canvas_of s.siz) (shapes_of s) t
     → count ≡ tile_blocks (tile_rect (canvas_of s.siz) t) (shapes_of s t) → Behind s t (first + count)
@@ -266,7 +267,7 @@ counted_lies v name t i first k g c = lies v (block_name t name i) first k g c.s
   index = subst (λ (h : Geometry). i < size_of (blocks_in h name.comp name.res name.band)) (sym c.geometry) c.index;
 })
 
-pub counted_inside : (v : SideValue) (name : BandName) (t i first k : ℕ) (g : Geometry) → IsCounted v name t i first k g → (first + k < length v.blocks) × (length v.blocks ≤ 2 ^ 20)
+pub counted_inside : (v : SideValue) (name : BandName) (t i first k : ℕ) (g : Geometry) → IsCounted v name t i first k g → (first + k < length v.blocks) × (length v.blocks ≤ most_blocks)
 counted_inside v name t i first k g c = let here = counted_lies v name t i first k g c in (here.inside, here.few)
 
 pub record IsFoundAt (v : SideValue) (name : BandName) (i : ℕ) (b : Block) : Type 0 where

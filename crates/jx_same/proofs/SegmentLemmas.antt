@@ -14,6 +14,7 @@ use Rattle.jx_tier1_specs.specs.Short.{AreShort}
 use Rattle.jx_codeblock.specs.Recoding.{own_segments}
 use Rattle.jx_codeblock.specs.Segments.{ends_below, segment_at, segment_count, segments_of}
 use Rattle.jx_same.specs.Lists.{bytes_at}
+use Rattle.jx_base.specs.Limits.{most_bytes}
 
 -- ---- how many passes end a segment
 pub ends_next : (style n : ℕ) → ends_below style (n + 1) ≡ ends_below style n + (if end_pass style n then 1 else 0)
@@ -153,7 +154,7 @@ all_mapped : {X Y : Type 0} (P : Y → Type 0) (f : X → Y) (xs : List X) → (
 all_mapped P f [] each = All-nil P
 all_mapped P f (x ∷ xs) each = All-cons P (f x) (map f xs) (each x) (all_mapped P f xs each)
 
-pub own_short : (b : Block) → bytes_in b.pieces ≤ 2 ^ 28 → AreShort (own_segments b)
+pub own_short : (b : Block) → bytes_in b.pieces ≤ most_bytes → AreShort (own_segments b)
 unfolding segments_of
 own_short b few =
     all_mapped (λ (s : List ℕ). length s < 2 ^ 32) (segment_at b.style.bits b.pieces) (range_with_len 0 (segment_count b.style.bits b.passes))

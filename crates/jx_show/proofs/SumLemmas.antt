@@ -1,5 +1,5 @@
 -- The bytes of the blocks of each component, one block more.
-use Rattle.std.proofs.Common.{◌≡◌, ◌∙◌, ◌<◌, ◌≤◌, ◌+◌, ◌*◌, ◌^◌, ◌==◌, ℕ, Bool, true, false, nat_lt, arith, ap, sym, List, length, take, get_or, sum_by, cond, inl, inr}
+use Rattle.std.proofs.Common.{◌≡◌, ◌∙◌, ◌<◌, ◌≤◌, ◌+◌, ◌*◌, ◌==◌, ℕ, Bool, true, false, nat_lt, arith, ap, sym, List, length, take, get_or, sum_by, cond, inl, inr}
 use Rattle.std.proofs.Math.ListN.{set}
 use Rattle.std.proofs.lemmas.Bool.{cases_eq, cases_lt, eq-eqb, le-ltb, lt-ltb, ne_eqb}
 use Rattle.std.proofs.lemmas.Grind.{get_or-set_at}
@@ -7,6 +7,7 @@ use Rattle.std.proofs.lemmas.List.{get_or-set_other, length-set}
 use Rattle.std.proofs.lemmas.List.Sums.{sum_by_more}
 use Rattle.jx_base.specs.declared.pieces.Block.{Block}
 use Rattle.jx_show.specs.Facts.{block_bytes, bytes_in_comp}
+use Rattle.jx_base.specs.Limits.{most_bytes}
 
 -- the sums with n more at k, where it is there
 abbrev pub with_more : List ℕ → ℕ → ℕ → List ℕ
@@ -54,5 +55,5 @@ at_most : (holds : Bool) (n m : ℕ) → n ≤ m → cond holds n 0 ≤ m
 at_most true n m le = le
 at_most false n m le = omega arith
 
-pub sums_most : (sums next : List ℕ) (k n c i : ℕ) → c < length sums → n ≤ 2 ^ 28 → next ≡ with_more sums k n → get_or sums c 0 ≤ i * 2 ^ 28 → get_or next c 0 ≤ (i + 1) * 2 ^ 28
-sums_most sums next k n c i within few e before = omega (arith, added sums next k n c within e, at_most (k == c) n (2 ^ 28) few, before)
+pub sums_most : (sums next : List ℕ) (k n c i : ℕ) → c < length sums → n ≤ most_bytes → next ≡ with_more sums k n → get_or sums c 0 ≤ i * most_bytes → get_or next c 0 ≤ (i + 1) * most_bytes
+sums_most sums next k n c i within few e before = omega (arith, added sums next k n c within e, at_most (k == c) n (most_bytes) few, before)

@@ -6,6 +6,7 @@ ghost use Rattle.jx_base.specs.Joined.{joined};
 ghost use Rattle.jx_base.specs.Pieces.{bytes_in, value_of};
 ghost use Rattle.jx_base.specs.Sound.{IsSound};
 ghost use Rattle.jx_show.specs.Facts.{block_bytes, byte_facts, bytes_in_comp};
+ghost use Rattle.jx_base.specs.Limits.{most_bytes};
 
 use crate::picture::{fact, of_comp};
 use crate::{Fact, Name, Value};
@@ -14,7 +15,7 @@ use std::alloc::Global;
 
 /// The bytes of some pieces.
 fn bytes_of(pieces: &[Piece<'_>]) -> u32
-    requires { bytes_in (map value_of pieces.now) ≤ 2 ^ 28 }
+    requires { bytes_in (map value_of pieces.now) ≤ most_bytes }
     ensures { result ≡ bytes_in (map value_of pieces.now) }
 {
     let mut bytes = 0;

@@ -1,8 +1,9 @@
 //! The running sums of a store's sizes, and what a store asks of them.
-ghost use Rattle.std.specs.Prelude.{◌≡◌, ◌<◌, ◌≤◌, ◌+◌, ◌^◌, IfOk, length};
+ghost use Rattle.std.specs.Prelude.{◌≡◌, ◌<◌, ◌≤◌, ◌+◌, IfOk, length};
 ghost use Rattle.std.specs.List.{sum};
 ghost use Rattle.jx_store.specs.Setup.{load, end_of, is_over};
 ghost use Rattle.jx_store.specs.Sums.{sums_from};
+ghost use Rattle.jx_base.specs.Limits.{most_blocks, most_bytes};
 
 use jx_base::NoMemory;
 use std::alloc::Global;
@@ -19,9 +20,10 @@ pub struct Sums {
 }
 
 impl Model for Sums {
-    ghost use Rattle.std.specs.Prelude.{◌≡◌, ◌<◌, ◌≤◌, ◌+◌, ◌^◌, length};
+    ghost use Rattle.std.specs.Prelude.{◌≡◌, ◌<◌, ◌≤◌, ◌+◌, length};
     ghost use Rattle.jx_store.specs.Setup.{Setup};
     ghost use Rattle.jx_store.specs.Sums.{items_of, sums_from};
+    ghost use Rattle.jx_base.specs.Limits.{most_blocks};
 
     ghost Value = { Setup };
 
@@ -29,7 +31,7 @@ impl Model for Sums {
 
     ghost invariant = { λ s. record {
       some : 0 < length (items_of s.sums.items);
-      range : s.first + length (items_of s.sums.items) ≤ 2 ^ 20;
+      range : s.first + length (items_of s.sums.items) ≤ most_blocks;
       window : (0 < s.window) × (s.window ≤ 1024);
       sums : s.sums.items ≡ sums_from 0 (items_of s.sums.items);
     } };
@@ -37,7 +39,7 @@ impl Model for Sums {
 
 impl Sums {
     /// The sums of the sizes of the numbers from `first` on. There is at least one size, the numbers
-    /// end at 2^20 and the sizes sum to at most 2^28. `window` is 1 to 1,024, `most` 1 to 2^28.
+    /// end at 2^22 and the sizes sum to at most 2^32 - 1. `window` is 1 to 1,024, `most` 1 to 2^32 - 1.
     pub fn new(
         alloc: Global,
         first: u32,
@@ -45,10 +47,10 @@ impl Sums {
         window: u32,
         most: u32,
     ) -> Result<Sums, NoMemory>
-        requires count { (0 < length sizes.now) × (first + length sizes.now ≤ 2 ^ 20) }
-        requires sizes { sum sizes.now ≤ 2 ^ 28 }
+        requires count { (0 < length sizes.now) × (first + length sizes.now ≤ most_blocks) }
+        requires sizes { sum sizes.now ≤ most_bytes }
         requires window { (0 < window) × (window ≤ 1024) }
-        requires most { (0 < most) × (most ≤ 2 ^ 28) }
+        requires most { (0 < most) × (most ≤ most_bytes) }
         ensures { IfOk result (λ s. s ≡ record { first = first; sizes = sizes.now; window = window; most = most }) }
     {
         let sums = running_sums(alloc, sizes)?;
@@ -67,10 +69,10 @@ impl Sums {
         self.first
     }
 
-    /// The first number after all, at most 2^20.
+    /// The first number after all, at most 2^22.
     pub fn end(&self) -> u32
         ensures is { result ≡ end_of self.now }
-        ensures range { (self.now.first < result) × (result ≤ 2 ^ 20) }
+        ensures range { (self.now.first < result) × (result ≤ most_blocks) }
     {
         self.first + (self.sums.len() - 1) as u32
     }
@@ -103,7 +105,7 @@ impl Sums {
 
 // The sums of the first sizes, from none to all.
 fn running_sums(alloc: Global, sizes: &[u32]) -> Result<Vec<u32>, NoMemory>
-    requires { (sum sizes.now ≤ 2 ^ 28) × (length sizes.now ≤ 2 ^ 20) }
+    requires { (sum sizes.now ≤ most_bytes) × (length sizes.now ≤ most_blocks) }
     ensures { IfOk result (λ v. v.items ≡ sums_from 0 sizes.now) }
 {
     let mut sums = Vec::with_capacity(alloc, sizes.len() + 1)?;

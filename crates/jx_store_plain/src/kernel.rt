@@ -1,9 +1,10 @@
 //! The core: a window of slots and a tape.
-ghost use Rattle.std.specs.Prelude.{◌≡◌, ◌<◌, ◌≤◌, ◌+◌, ◌^◌, IfOk, length};
+ghost use Rattle.std.specs.Prelude.{◌≡◌, ◌<◌, ◌≤◌, ◌+◌, IfOk, length};
 ghost use Rattle.std.specs.List.{sum};
 ghost use Rattle.jx_store.specs.Machine.{start, end, does, is_full};
 ghost use Rattle.jx_store_plain.specs.Shown.{state_of};
 ghost use Rattle.jx_store.specs.declared.event.Event.TheVariants.{Claim, Commit, Drain};
+ghost use Rattle.jx_base.specs.Limits.{most_blocks, most_bytes};
 
 use crate::slot::Slot;
 use jx_base::NoMemory;
@@ -24,9 +25,10 @@ pub struct Core<V> {
 }
 
 impl<V> Model for Core<V> {
-    ghost use Rattle.std.specs.Prelude.{◌≡◌, ◌<◌, ◌≤◌, ◌+◌, ◌^◌, length, vec_len, vec_capacity};
+    ghost use Rattle.std.specs.Prelude.{◌≡◌, ◌<◌, ◌≤◌, ◌+◌, length, vec_len, vec_capacity};
     ghost use Rattle.jx_store.specs.Setup.{end_of};
     ghost use Rattle.jx_store_plain.specs.Shown.{Shown};
+    ghost use Rattle.jx_base.specs.Limits.{most_blocks};
 
     ghost Value = { Shown V };
 
@@ -35,7 +37,7 @@ impl<V> Model for Core<V> {
     ghost invariant = { λ c. record {
       window : 0 < c.sums.window;
       slots : vec_len c.slots ≡ c.sums.window;
-      range : end_of c.sums ≤ 2 ^ 20;
+      range : end_of c.sums ≤ most_blocks;
       low : c.sums.first ≤ c.drained;
       mid : c.drained ≤ c.next;
       high : c.next ≤ end_of c.sums;
@@ -47,8 +49,8 @@ impl<V> Model for Core<V> {
 
 impl<V: Drop> Core<V> {
     /// A store of the numbers from `first` on, none of them claimed. There is at least one size,
-    /// the numbers end at 2^20 and the sizes sum to at most 2^28. `window` is 1 to 1,024, `most` 1
-    /// to 2^28. All room that the store will need is taken here.
+    /// the numbers end at 2^22 and the sizes sum to at most 2^32 - 1. `window` is 1 to 1,024, `most` 1
+    /// to 2^32 - 1. All room that the store will need is taken here.
     pub fn new(
         alloc: Global,
         first: u32,
@@ -56,10 +58,10 @@ impl<V: Drop> Core<V> {
         window: u32,
         most: u32,
     ) -> Result<Core<V>, NoMemory>
-        requires count { (0 < length sizes.now) × (first + length sizes.now ≤ 2 ^ 20) }
-        requires sizes { sum sizes.now ≤ 2 ^ 28 }
+        requires count { (0 < length sizes.now) × (first + length sizes.now ≤ most_blocks) }
+        requires sizes { sum sizes.now ≤ most_bytes }
         requires window { (0 < window) × (window ≤ 1024) }
-        requires most { (0 < most) × (most ≤ 2 ^ 28) }
+        requires most { (0 < most) × (most ≤ most_bytes) }
         ensures { IfOk result (λ c. state_of c ≡ start (record { first = first; sizes = sizes.now; window = window; most = most })) }
     {
         let sums = Sums::new(alloc, first, sizes, window, most)?;

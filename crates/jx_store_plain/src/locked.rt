@@ -18,6 +18,7 @@ ghost use Rattle.jx_store_plain.specs.ShownNotes.{shown};
 ghost use Rattle.jx_store.specs.Valid.{IsOf};
 ghost use Rattle.jx_store_plain.specs.Below.{AllBelow};
 ghost use Rattle.jx_store_plain.specs.Made.{made_in, made_on};
+ghost use Rattle.jx_base.specs.Limits.{most_blocks, most_bytes};
 
 use crate::history::{History, Kind, Told};
 use crate::kernel::Core;
@@ -121,10 +122,10 @@ impl<V: Work, N: Bounds<V::Job>, A: Ledger, B: Ledger, C: Ledger, D: Ledger, E: 
         made: Book<E>,
     ) -> Result<Locked<V, N, A, B, C, D, E>, NoMemory>
         requires bounds { N.setup ≡ record { first = first; sizes = sizes.now; window = window; most = most } }
-        requires count { (0 < length sizes.now) × (first + length sizes.now ≤ 2 ^ 20) }
-        requires sizes { sum sizes.now ≤ 2 ^ 28 }
+        requires count { (0 < length sizes.now) × (first + length sizes.now ≤ most_blocks) }
+        requires sizes { sum sizes.now ≤ most_bytes }
         requires window { (0 < window) × (window ≤ 1024) }
-        requires most { (0 < most) × (most ≤ 2 ^ 28) }
+        requires most { (0 < most) × (most ≤ most_bytes) }
         requires empty { (books.0.total ≡ 0) × (books.1.total ≡ 0) × (books.2.total ≡ 0) × (books.3.total ≡ 0) }
         requires none_made { made.total ≡ 0 }
         ensures { IfOk result (λ h. (state_of h.core ≡ start N.setup) × (h.notes ≡ no_notes)) }
@@ -150,10 +151,10 @@ impl<V: Work, N: Bounds<V::Job>, A: Ledger, B: Ledger, C: Ledger, D: Ledger, E: 
         books: Books<A, B, C, D, E>,
     ) -> Result<Locked<V, N, A, B, C, D, E>, NoMemory>
         requires bounds { N.setup ≡ record { first = first; sizes = sizes.now; window = window; most = most } }
-        requires count { (0 < length sizes.now) × (first + length sizes.now ≤ 2 ^ 20) }
-        requires sizes { sum sizes.now ≤ 2 ^ 28 }
+        requires count { (0 < length sizes.now) × (first + length sizes.now ≤ most_blocks) }
+        requires sizes { sum sizes.now ≤ most_bytes }
         requires window { (0 < window) × (window ≤ 1024) }
-        requires most { (0 < most) × (most ≤ 2 ^ 28) }
+        requires most { (0 < most) × (most ≤ most_bytes) }
         requires empty { (books.claimed.total ≡ 0) × (books.full.total ≡ 0) × (books.all_claimed.total ≡ 0) × (books.committed.total ≡ 0) × (books.made.total ≡ 0) }
         ensures { IfOk result (λ h. (state_of h.core ≡ start N.setup) × (h.notes ≡ no_notes)) }
     {

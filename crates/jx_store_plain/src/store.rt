@@ -1,5 +1,5 @@
 //! The store with a lock.
-ghost use Rattle.std.specs.Prelude.{◌≡◌, ◌<◌, ◌≤◌, ◌+◌, ◌*◌, ◌^◌, ◌⊎◌, All, IfOk, None, Some, List, length, map, vec_len, sum_by, ℕ, slice_get};
+ghost use Rattle.std.specs.Prelude.{◌≡◌, ◌<◌, ◌≤◌, ◌+◌, ◌*◌, ◌⊎◌, All, IfOk, None, Some, List, length, map, vec_len, sum_by, ℕ, slice_get};
 ghost use Rattle.std.specs.List.{sum};
 ghost use Rattle.jx_store.specs.declared.event.Taped.{Taped};
 ghost use Rattle.jx_store.specs.declared.event.Event.{Event};
@@ -15,6 +15,7 @@ ghost use Rattle.jx_store_plain.specs.Notes.{count_full, count_all, count_claims
 ghost use Rattle.jx_store_plain.specs.Replays.{Remembers, blank_taped, replayed};
 ghost use Rattle.jx_store_plain.specs.ShownNotes.{shown};
 ghost use Rattle.jx_store_plain.specs.Told.{IsToldBy, IsTold};
+ghost use Rattle.jx_base.specs.Limits.{most_blocks, most_bytes};
 
 use crate::history::Told;
 use crate::locked::Locked;
@@ -100,8 +101,8 @@ impl<V: Work, N: Bounds<V::Job>, A: Ledger, B: Ledger, C: Ledger, D: Ledger, E: 
     E,
 > {
     /// A store of the numbers from `first` on, one for each job and size, and a pass for each
-    /// worker. There is at least one job, the numbers end at 2^20, the sizes sum to at most 2^28,
-    /// `window` is 1 to 1,024, `most` 1 to 2^28 and `workers` 1 to 64. All room that the store will
+    /// worker. There is at least one job, the numbers end at 2^22, the sizes sum to at most 2^32 - 1,
+    /// `window` is 1 to 1,024, `most` 1 to 2^32 - 1 and `workers` 1 to 64. All room that the store will
     /// need is taken here.
     pub fn new(
         alloc: Global,
@@ -114,10 +115,10 @@ impl<V: Work, N: Bounds<V::Job>, A: Ledger, B: Ledger, C: Ledger, D: Ledger, E: 
         blanks: Blanks,
     ) -> Result<(LockStore<V, N, A, B, C, D, E>, Vec<Pass<N, A, B, C, D, E>>), NoMemory>
         requires bounds { (N.setup ≡ record { first = first; sizes = sizes.now; window = window; most = most }) × (N.workers ≡ workers) × (N.jobs ≡ jobs.now) }
-        requires count { (0 < length sizes.now) × (first + length sizes.now ≤ 2 ^ 20) × (length jobs.now ≡ length sizes.now) }
-        requires sizes { sum sizes.now ≤ 2 ^ 28 }
+        requires count { (0 < length sizes.now) × (first + length sizes.now ≤ most_blocks) × (length jobs.now ≡ length sizes.now) }
+        requires sizes { sum sizes.now ≤ most_bytes }
         requires window { (0 < window) × (window ≤ 1024) }
-        requires most { (0 < most) × (most ≤ 2 ^ 28) }
+        requires most { (0 < most) × (most ≤ most_bytes) }
         requires workers { (0 < workers) × (workers ≤ 64) }
         requires names { (blanks.claimed.name ≡ A.name) × (blanks.full.name ≡ B.name) × (blanks.all_claimed.name ≡ C.name) × (blanks.committed.name ≡ D.name) }
         requires parts { (blanks.claimed.parts ≡ A.parts) × (blanks.full.parts ≡ B.parts) × (blanks.all_claimed.parts ≡ C.parts) × (blanks.committed.parts ≡ D.parts) }

@@ -1,7 +1,8 @@
 //! Four threads on one lock store.
 
-ghost use Rattle.std.specs.Prelude.{◌≡◌, ◌+◌, ◌<◌, ◌≤◌, ◌^◌, All, None, length};
+ghost use Rattle.std.specs.Prelude.{◌≡◌, ◌+◌, ◌<◌, ◌≤◌, All, None, length};
 ghost use Rattle.std.specs.List.{sum};
+ghost use Rattle.jx_base.specs.Limits.{most_blocks, most_bytes};
 
 use crate::works::{Limits, Line, Maker, Plain, Plains, blanks, expect_whole, lines, many};
 use jx_base::NoMemory;
@@ -96,9 +97,9 @@ fn shared<
     blanks: Blanks,
 ) -> Result<Vec<Line>, NoMemory>
     requires bounds { (N.setup ≡ record { first = limits.first; sizes = sizes.now; window = limits.window; most = limits.most }) × (N.workers ≡ limits.workers) × (N.jobs ≡ jobs.now) }
-    requires jobs { (0 < length jobs.now) × (limits.first + length jobs.now ≤ 2 ^ 20) × (length jobs.now ≡ length sizes.now) × (M.jobs maker.now ≡ jobs.now) × (M.first maker.now ≡ limits.first) }
-    requires sizes { sum sizes.now ≤ 2 ^ 28 }
-    requires limits { (0 < limits.window) × (limits.window ≤ 1024) × (0 < limits.most) × (limits.most ≤ 2 ^ 28) × (0 < limits.workers) × (limits.workers ≤ 64) }
+    requires jobs { (0 < length jobs.now) × (limits.first + length jobs.now ≤ most_blocks) × (length jobs.now ≡ length sizes.now) × (M.jobs maker.now ≡ jobs.now) × (M.first maker.now ≡ limits.first) }
+    requires sizes { sum sizes.now ≤ most_bytes }
+    requires limits { (0 < limits.window) × (limits.window ≤ 1024) × (0 < limits.most) × (limits.most ≤ most_bytes) × (0 < limits.workers) × (limits.workers ≤ 64) }
     requires names { (blanks.claimed.name ≡ A.name) × (blanks.full.name ≡ B.name) × (blanks.all_claimed.name ≡ C.name) × (blanks.committed.name ≡ D.name) × (blanks.made.name ≡ E.name) }
     requires parts { (blanks.claimed.parts ≡ A.parts) × (blanks.full.parts ≡ B.parts) × (blanks.all_claimed.parts ≡ C.parts) × (blanks.committed.parts ≡ D.parts) × (blanks.made.parts ≡ E.parts) }
     requires each { (A.parts ≡ limits.workers) × (B.parts ≡ limits.workers) × (C.parts ≡ limits.workers) × (D.parts ≡ limits.workers) × (E.parts ≡ limits.workers) }
@@ -125,9 +126,9 @@ pub fn by_threads<R: Threads + Wait + Sync, M: Maker<Plain> + Sync>(
     limits: Limits,
     maker: &M,
 ) -> Result<Vec<Line>, NoMemory>
-    requires jobs { (0 < length jobs.now) × (limits.first + length jobs.now ≤ 2 ^ 20) × (length jobs.now ≡ length sizes.now) × (M.jobs maker.now ≡ jobs.now) × (M.first maker.now ≡ limits.first) }
-    requires sizes { sum sizes.now ≤ 2 ^ 28 }
-    requires limits { (0 < limits.window) × (limits.window ≤ 1024) × (0 < limits.most) × (limits.most ≤ 2 ^ 28) × (0 < limits.workers) × (limits.workers ≤ 64) }
+    requires jobs { (0 < length jobs.now) × (limits.first + length jobs.now ≤ most_blocks) × (length jobs.now ≡ length sizes.now) × (M.jobs maker.now ≡ jobs.now) × (M.first maker.now ≡ limits.first) }
+    requires sizes { sum sizes.now ≤ most_bytes }
+    requires limits { (0 < limits.window) × (limits.window ≤ 1024) × (0 < limits.most) × (limits.most ≤ most_bytes) × (0 < limits.workers) × (limits.workers ≤ 64) }
 {
     shared::<Plain, Brand, Brand, Brand, Brand, Brand, Brand, R, M>(
         rt,

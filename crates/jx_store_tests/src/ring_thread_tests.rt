@@ -1,8 +1,9 @@
 //! Threads on one ring.
 
-ghost use Rattle.std.specs.Prelude.{◌≡◌, ◌+◌, ◌<◌, ◌≤◌, ◌^◌, All, None, length};
+ghost use Rattle.std.specs.Prelude.{◌≡◌, ◌+◌, ◌<◌, ◌≤◌, All, None, length};
 ghost use Rattle.std.specs.List.{sum};
 ghost use Rattle.jx_store.specs.Setup.{end_of};
+ghost use Rattle.jx_base.specs.Limits.{most_blocks, most_bytes};
 
 use crate::checks::{check, equal};
 use crate::works::{Gated, Limits, Line, Maker, Plain, Plains, Wanted, expect_whole, lines, many};
@@ -81,9 +82,9 @@ fn shared<
     maker: &M,
 ) -> Result<Vec<Line>, NoMemory>
     requires bounds { (N.setup ≡ record { first = limits.first; sizes = sizes.now; window = limits.window; most = limits.most }) × (N.workers ≡ limits.workers) × (N.jobs ≡ jobs.now) }
-    requires jobs { (0 < length jobs.now) × (limits.first + length jobs.now ≤ 2 ^ 20) × (length jobs.now ≡ length sizes.now) × (M.jobs maker.now ≡ jobs.now) × (M.first maker.now ≡ limits.first) }
-    requires sizes { sum sizes.now ≤ 2 ^ 28 }
-    requires limits { (0 < limits.window) × (limits.window ≤ 1024) × (0 < limits.most) × (limits.most ≤ 2 ^ 28) × (0 < limits.workers) × (limits.workers ≤ 64) }
+    requires jobs { (0 < length jobs.now) × (limits.first + length jobs.now ≤ most_blocks) × (length jobs.now ≡ length sizes.now) × (M.jobs maker.now ≡ jobs.now) × (M.first maker.now ≡ limits.first) }
+    requires sizes { sum sizes.now ≤ most_bytes }
+    requires limits { (0 < limits.window) × (limits.window ≤ 1024) × (0 < limits.most) × (limits.most ≤ most_bytes) × (0 < limits.workers) × (limits.workers ≤ 64) }
 {
     let Limits {
         first,
@@ -106,9 +107,9 @@ pub fn by_threads<R: Threads + Wait + Sync, M: Maker<Plain> + Sync>(
     limits: Limits,
     maker: &M,
 ) -> Result<Vec<Line>, NoMemory>
-    requires jobs { (0 < length jobs.now) × (limits.first + length jobs.now ≤ 2 ^ 20) × (length jobs.now ≡ length sizes.now) × (M.jobs maker.now ≡ jobs.now) × (M.first maker.now ≡ limits.first) }
-    requires sizes { sum sizes.now ≤ 2 ^ 28 }
-    requires limits { (0 < limits.window) × (limits.window ≤ 1024) × (0 < limits.most) × (limits.most ≤ 2 ^ 28) × (0 < limits.workers) × (limits.workers ≤ 64) }
+    requires jobs { (0 < length jobs.now) × (limits.first + length jobs.now ≤ most_blocks) × (length jobs.now ≡ length sizes.now) × (M.jobs maker.now ≡ jobs.now) × (M.first maker.now ≡ limits.first) }
+    requires sizes { sum sizes.now ≤ most_bytes }
+    requires limits { (0 < limits.window) × (limits.window ≤ 1024) × (0 < limits.most) × (limits.most ≤ most_bytes) × (0 < limits.workers) × (limits.workers ≤ 64) }
 {
     shared::<Plain, Brand, R, M>(rt, alloc, jobs, sizes, limits, maker)
 }
@@ -178,7 +179,7 @@ fn eight(
     limit: u32,
 ) -> Result<(Vec<Line>, bool), NoMemory>
     requires first { limits.first ≡ 0 }
-    requires limits { (0 < limits.window) × (limits.window ≤ 1024) × (0 < limits.most) × (limits.most ≤ 2 ^ 28) × (0 < limits.workers) × (limits.workers ≤ 64) }
+    requires limits { (0 < limits.window) × (limits.window ≤ 1024) × (0 < limits.most) × (limits.most ≤ most_bytes) × (0 < limits.workers) × (limits.workers ≤ 64) }
 {
     let jobs = [0, 1, 2, 3, 4, 5, 6, 7];
     let sizes = [1, 1, 1, 1, 1, 1, 1, 1];

@@ -1,8 +1,9 @@
 //! What the stores hold in the tests, what makes it, and the calls on passes of the store with a lock.
 
-ghost use Rattle.std.specs.Prelude.{ℕ, List, ◌≡◌, ◌+◌, ◌*◌, ◌<◌, ◌≤◌, ◌^◌, ◌%◌, ◌==◌, IfOk, None, Some, false, length};
+ghost use Rattle.std.specs.Prelude.{ℕ, List, ◌≡◌, ◌+◌, ◌*◌, ◌<◌, ◌≤◌, ◌%◌, ◌==◌, IfOk, None, Some, false, length};
 ghost use Rattle.std.specs.List.{sum};
 ghost use Rattle.jx_store.specs.Valid.{IsOf};
+ghost use Rattle.jx_base.specs.Limits.{most_blocks, most_bytes};
 
 use crate::checks::{check, check_at, equal, equal_at};
 use jx_base::NoMemory;
@@ -225,8 +226,8 @@ pub fn many(
     count: u32,
     step: u32,
 ) -> Result<(Vec<u32>, Vec<u32>), NoMemory>
-    requires { first + count ≤ 2 ^ 20 }
-    ensures { IfOk result (λ v. (length v.0.items ≡ count) × (length v.1.items ≡ count) × (sum v.1.items ≤ 2 ^ 28)) }
+    requires { first + count ≤ most_blocks }
+    ensures { IfOk result (λ v. (length v.0.items ≡ count) × (length v.1.items ≡ count) × (sum v.1.items ≤ most_bytes)) }
 {
     let mut numbers = Vec::with_capacity(alloc, count as usize)?;
     let mut sizes = Vec::with_capacity(alloc, count as usize)?;

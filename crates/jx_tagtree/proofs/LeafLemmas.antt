@@ -74,11 +74,11 @@ passes-above (suc m) l node n s i lt =
 -- of the leaves' level a way passes its own leaf alone
 pub passes-leaf : (wide high l n : ℕ) → IsShape wide high → l < wide * high → n < wide * high → passes n (way wide high l) ≡ (l == n)
 passes-leaf wide high l n s lt n_lt =
-    let level : IsLevel 20 (base wide high) = IsLevel-base wide high s in
+    let level : IsLevel 22 (base wide high) = IsLevel-base wide high s in
     let here : InLevel (base wide high) l = InLevel-base wide high l lt in
     let below : n < 0 + wide * high = omega arith in
     sym (ap (passes n) (way_begin wide high l))
-    ∙ by (is_root (base wide high)) (passes-above 19 (over (base wide high)) (parent_at (base wide high) l) n (IsLevel-over 19 (base wide high) level) (InLevel-parent 20 (base wide high) l level here) below)
+    ∙ by (is_root (base wide high)) (passes-above 21 (over (base wide high)) (parent_at (base wide high) l) n (IsLevel-over 21 (base wide high) level) (InLevel-parent 22 (base wide high) l level here) below)
   where
     by : (b : Bool) → passes n (way_from 19 (over (base wide high)) (parent_at (base wide high) l)) ≡ false →
         passes n (cond b (l ∷ []) (l ∷ way_from 19 (over (base wide high)) (parent_at (base wide high) l))) ≡ (l == n)
@@ -347,7 +347,7 @@ has_under (suc m) l n s le top =
 leaf_under : (wide high n : ℕ) → IsShape wide high → n ≤ root wide high → (l : ℕ) × (l < wide * high) × (passes n (way wide high l) ≡ true)
 unfolding root
 leaf_under wide high n s le =
-    let r = has_under 20 (base wide high) n (IsLevel-base wide high s) (omega arith) le in
+    let r = has_under 22 (base wide high) n (IsLevel-base wide high s) (omega arith) le in
     let last : r.0 < 0 + wide * high = r.1.last in
     (r.0, omega arith, ap (passes n) (sym (way_begin wide high r.0)) ∙ r.2)
 

@@ -6,6 +6,7 @@ use Rattle.std.proofs.Math.Nat.{two-pow-succ, div-one, div-div-eq-div-mul}
 use Rattle.std.proofs.lemmas.Bool.Decides.{nat_tests}
 use Rattle.jx_tagtree.specs.declared.shape.Level.{Level}
 use Rattle.jx_tagtree.specs.Shape.{IsShape, base, is_root, over, parent_at, root_from, root, way_from, way, levels_from, levels_of, node_in, nodes_over, FitsWay, IsLevel, InLevel}
+use Rattle.jx_base.specs.Limits.{most_blocks}
 
 pos_left : (a b : ℕ) → 1 ≤ a * b → 1 ≤ a
 pos_left zero b h = let e : 0 * b ≡ 0 = omega arith in omega arith
@@ -23,10 +24,10 @@ le_product' : (a b : ℕ) → 1 ≤ a → b ≤ a * b
 le_product' zero b h = absurd (omega arith)
 le_product' (suc a) b h = let e : suc a * b ≡ b + a * b = omega arith in omega arith
 
-pub IsLevel-base : (wide high : ℕ) → IsShape wide high → IsLevel 20 (base wide high)
+pub IsLevel-base : (wide high : ℕ) → IsShape wide high → IsLevel 22 (base wide high)
 IsLevel-base wide high s =
     let some : 1 ≤ wide * high = s.some in
-    let few : wide * high ≤ 2 ^ 20 = s.few in
+    let few : wide * high ≤ most_blocks = s.few in
     let w : 1 ≤ wide = pos_left wide high some in
     let h : 1 ≤ high = pos_right wide high some in
     let lw : wide ≤ wide * high = le_product wide high h in
@@ -48,12 +49,12 @@ half_some w h = omega arith
 
 pub IsLevel-over : (n : ℕ) (l : Level) → IsLevel (suc n) l → IsLevel n (over l)
 IsLevel-over n l s =
-    let within : suc n ≤ 20 = s.within in
-    let first : l.first ≤ (20 - suc n) * 2 ^ 20 = s.first in
-    let few : l.wide * l.high ≤ 2 ^ 20 = s.few in
+    let within : suc n ≤ 22 = s.within in
+    let first : l.first ≤ (22 - suc n) * most_blocks = s.first in
+    let few : l.wide * l.high ≤ most_blocks = s.few in
     let less : (l.wide + 1) / 2 * ((l.high + 1) / 2) ≤ l.wide * l.high = mul-le ((l.wide + 1) / 2) ((l.high + 1) / 2) l.wide l.high (half_less l.wide s.some_wide) (half_less l.high s.some_high) in
-    let more : 20 - n ≡ suc (20 - suc n) = omega arith in
-    let again : (20 - n) * 2 ^ 20 ≡ 2 ^ 20 + (20 - suc n) * 2 ^ 20 = rw more (omega arith) in
+    let more : 22 - n ≡ suc (22 - suc n) = omega arith in
+    let again : (22 - n) * most_blocks ≡ most_blocks + (22 - suc n) * most_blocks = rw more (omega arith) in
     record {
       some_wide = half_some l.wide s.some_wide;
       some_high = half_some l.high s.some_high;
@@ -97,14 +98,14 @@ pub not_top : (l : Level) (n : ℕ) → IsLevel n l → is_root l ≡ false → 
 not_top l zero s top = absurd (let t : is_root l ≡ true = root_at_zero l s in cc)
 not_top l (suc m) s top = (m, refl)
 
-pub level_first : (n : ℕ) (l : Level) → IsLevel n l → l.first ≤ 20 * 2 ^ 20
+pub level_first : (n : ℕ) (l : Level) → IsLevel n l → l.first ≤ 22 * most_blocks
 level_first n l s =
-    let first : l.first ≤ (20 - n) * 2 ^ 20 = s.first in
-    let small : 20 - n ≤ 20 = omega arith in
-    let bound : (20 - n) * 2 ^ 20 ≤ 20 * 2 ^ 20 = mul-le (20 - n) (2 ^ 20) 20 (2 ^ 20) small (omega arith) in
+    let first : l.first ≤ (22 - n) * most_blocks = s.first in
+    let small : 22 - n ≤ 22 = omega arith in
+    let bound : (22 - n) * most_blocks ≤ 22 * most_blocks = mul-le (22 - n) (most_blocks) 22 (most_blocks) small (omega arith) in
     omega arith
 
-pub way_begin : (wide high leaf : ℕ) → way_from 20 (base wide high) leaf ≡ way wide high leaf
+pub way_begin : (wide high leaf : ℕ) → way_from 22 (base wide high) leaf ≡ way wide high leaf
 unfolding way
 way_begin wide high leaf = refl
 
@@ -117,9 +118,9 @@ way_next n l node top = ap (λ (b : Bool). cond b (node ∷ []) (node ∷ way_fr
 
 -- what stays true of the levels so far and the next one
 pub record Stacks (whole levels : List Level) (level : Level) : Type 0 where
-  pub some : length levels ≤ 20
-  pub is_level : IsLevel (20 - length levels) level
-  pub are : levels ++ levels_from (20 - length levels) level ≡ whole
+  pub some : length levels ≤ 22
+  pub is_level : IsLevel (22 - length levels) level
+  pub are : levels ++ levels_from (22 - length levels) level ≡ whole
 
 pub stack_begin : (wide high : ℕ) → IsShape wide high → Stacks (levels_of wide high) [] (base wide high)
 unfolding levels_of
@@ -133,13 +134,13 @@ levels_end zero l top = refl
 levels_end (suc n) l top = ap (λ (b : Bool). cond b (l ∷ []) (l ∷ levels_from n (over l))) top
 
 pub stack_next : (whole levels : List Level) (l : Level) → Stacks whole levels l → is_root l ≡ false →
-    (length levels < 20) × Stacks whole (levels ++ l ∷ []) (over l)
+    (length levels < 22) × Stacks whole (levels ++ l ∷ []) (over l)
 stack_next whole levels l c top =
-    let m = not_top l (20 - length levels) c.is_level top in
-    let left : 20 - length levels ≡ suc m.0 = m.1 in
-    let lt : length levels < 20 = omega arith in
+    let m = not_top l (22 - length levels) c.is_level top in
+    let left : 22 - length levels ≡ suc m.0 = m.1 in
+    let lt : length levels < 22 = omega arith in
     let long : length (levels ++ l ∷ []) ≡ length levels + 1 = length_push levels l in
-    let left' : m.0 ≡ 20 - length (levels ++ l ∷ []) = omega arith in
+    let left' : m.0 ≡ 22 - length (levels ++ l ∷ []) = omega arith in
     let here : IsLevel (suc m.0) l = subst (λ (k : ℕ). IsLevel k l) left c.is_level in (
       lt,
       record {
@@ -153,7 +154,7 @@ stack_next whole levels l c top =
     )
 
 pub stack_end : (whole levels : List Level) (l : Level) → Stacks whole levels l → is_root l ≡ true → levels ++ l ∷ [] ≡ whole
-stack_end whole levels l c top = ap (λ (w : List Level). levels ++ w) (sym (levels_end (20 - length levels) l top)) ∙ c.are
+stack_end whole levels l c top = ap (λ (w : List Level). levels ++ w) (sym (levels_end (22 - length levels) l top)) ∙ c.are
 
 -- ---- the nodes of a way stand over the leaf's place
 parent_in : (l : Level) (down across : ℕ) → across < l.wide → parent_at l (node_in l down across) ≡ node_in (over l) (down / 2) (across / 2)
@@ -211,7 +212,7 @@ module _ (levels : List Level) (down across : ℕ) (now : List ℕ) (view : node
       omega arith
 
   pub at_few : FitsWay levels down across → k < 32
-  at_few f = let few : length levels ≤ 21 = f.few in let i : k < length levels = at_inside in omega arith
+  at_few f = let few : length levels ≤ 23 = f.few in let i : k < length levels = at_inside in omega arith
 
   pub at_is : node_in (get_or levels k no_level) (down / 2 ^ k) (across / 2 ^ k) ≡ get_or now k 0
   at_is = sym (nodes_at levels k down across at_inside) ∙ ap (λ (l : List ℕ). get_or l k 0) view
@@ -226,16 +227,16 @@ way_over wide high leaf s lt =
     let w : 0 < wide = pos_left wide high some in
     let back : leaf / wide * wide + leaf % wide ≡ leaf = div-add-mod' leaf wide in
     let at : node_in (base wide high) (leaf / wide) (leaf % wide) ≡ leaf = omega arith in
-    sym (way_nodes 20 (base wide high) (leaf / wide) (leaf % wide) (mod_below leaf wide w)) ∙ ap (way_from 20 (base wide high)) at
+    sym (way_nodes 22 (base wide high) (leaf / wide) (leaf % wide) (mod_below leaf wide w)) ∙ ap (way_from 22 (base wide high)) at
 
-pub table_few : (wide high : ℕ) → length (levels_of wide high) ≤ 21
+pub table_few : (wide high : ℕ) → length (levels_of wide high) ≤ 23
 unfolding levels_of
-table_few wide high = levels_few 20 (base wide high)
+table_few wide high = levels_few 22 (base wide high)
 
 -- what stays true of the levels up to the root, after some of them
 pub record Rises (top counter : ℕ) (level : Level) : Type 0 where
-  pub is_level : IsLevel (20 - counter) level
-  pub same : root_from (20 - counter) level ≡ top
+  pub is_level : IsLevel (22 - counter) level
+  pub same : root_from (22 - counter) level ≡ top
 
 pub rise_begin : (wide high : ℕ) → IsShape wide high → Rises (root wide high) 0 (base wide high)
 unfolding root
@@ -243,9 +244,9 @@ rise_begin wide high s = record { is_level = IsLevel-base wide high s; same = re
 
 pub rise_next : (top counter : ℕ) (l : Level) → Rises top counter l → is_root l ≡ false → Rises top (counter + 1) (over l)
 rise_next top counter l r is =
-    let m = not_top l (20 - counter) r.is_level is in
-    let left : 20 - counter ≡ suc m.0 = m.1 in
-    let left' : m.0 ≡ 20 - (counter + 1) = omega arith in
+    let m = not_top l (22 - counter) r.is_level is in
+    let left : 22 - counter ≡ suc m.0 = m.1 in
+    let left' : m.0 ≡ 22 - (counter + 1) = omega arith in
     record {
       is_level = subst (λ (k : ℕ). IsLevel k (over l)) left' (IsLevel-over m.0 l (subst (λ (k : ℕ). IsLevel k l) left r.is_level));
       same = ap (λ (k : ℕ). root_from k (over l)) (sym left') ∙ sym (ap (λ (b : Bool). cond b l.first (root_from m.0 (over l))) is) ∙ ap (λ (k : ℕ). root_from k l) (sym left) ∙ r.same;

@@ -1,9 +1,10 @@
 -- The way from a node to the root goes from each node to its parent.
-use Rattle.std.proofs.Common.{◌≡◌, ℕ, zero, suc, ◌*◌, ◌/◌, ◌%◌, ◌^◌, ◌<◌, ◌≤◌, nat_lt, Bool, true, false, List, [], ◌∷◌, length, get_or, refl, sym, ap, ◌∙◌, subst, cond, arith}
+use Rattle.std.proofs.Common.{◌≡◌, ℕ, zero, suc, ◌*◌, ◌/◌, ◌%◌, ◌<◌, ◌≤◌, nat_lt, Bool, true, false, List, [], ◌∷◌, length, get_or, refl, sym, ap, ◌∙◌, subst, cond, arith}
 use Rattle.std.proofs.lemmas.Bool.Decides.{nat_tests}
 use Rattle.jx_tagtree.specs.declared.shape.Level.{Level}
 use Rattle.jx_tagtree.specs.Shape.{IsShape, base, is_root, over, parent_at, root_from, root, parent_from, parent, way_from, way, levels_of, nodes_over, FitsWay, IsLevel, InLevel}
 use Rattle.jx_tagtree.proofs.ShapeLemmas.{IsLevel-base, InLevel-base, IsLevel-over, InLevel-parent, root_at_zero, one_node, way_next, way_end, level_first, nodes_long, way_over, table_few}
+use Rattle.jx_base.specs.Limits.{most_blocks}
 
 -- a way from a node to the node `top`, where `up` gives the parent
 pub data IsWay (up : ℕ → ℕ) (top : ℕ) : ℕ → List ℕ → Type 0 where
@@ -47,7 +48,7 @@ climbs up top (suc m) l node s i ups tops = by (is_root l) refl
 
 pub way_is : (wide high leaf : ℕ) → IsShape wide high → leaf < wide * high → IsWay (parent wide high) (root wide high) leaf (way wide high leaf)
 unfolding way root parent
-way_is wide high leaf s h = climbs (parent_from 20 (base wide high)) (root_from 20 (base wide high)) 20 (base wide high) leaf (IsLevel-base wide high s) (InLevel-base wide high leaf h) (λ q le. refl) refl
+way_is wide high leaf s h = climbs (parent_from 22 (base wide high)) (root_from 22 (base wide high)) 22 (base wide high) leaf (IsLevel-base wide high s) (InLevel-base wide high leaf h) (λ q le. refl) refl
 
 -- ---- the fields of a way
 pub way_under : (up : ℕ → ℕ) (top n : ℕ) (ways : List ℕ) → IsWay up top n ways → (k : ℕ) → k < length ways → get_or ways k 0 ≤ top
@@ -56,21 +57,21 @@ way_under up top _ _ at_top (suc k) lt = absurd (omega arith)
 way_under up top _ _ (under {n} {over} lt w) zero k_lt = omega arith
 way_under up top _ _ (under {n} {over} lt w) (suc k) k_lt = way_under up top (up n) over w k (omega arith)
 
-root_from-le : (m : ℕ) (l : Level) → IsLevel m l → root_from m l ≤ 20 * 2 ^ 20
+root_from-le : (m : ℕ) (l : Level) → IsLevel m l → root_from m l ≤ 22 * most_blocks
 root_from-le zero l s = level_first 0 l s
 root_from-le (suc m) l s = by (is_root l) (level_first (suc m) l s) (root_from-le m (over l) (IsLevel-over m l s))
   where
-    by : (b : Bool) → l.first ≤ 20 * 2 ^ 20 → root_from m (over l) ≤ 20 * 2 ^ 20 → cond b l.first (root_from m (over l)) ≤ 20 * 2 ^ 20
+    by : (b : Bool) → l.first ≤ 22 * most_blocks → root_from m (over l) ≤ 22 * most_blocks → cond b l.first (root_from m (over l)) ≤ 22 * most_blocks
     by true h g = h
     by false h g = g
 
-root-le : (wide high : ℕ) → IsShape wide high → root wide high ≤ 20 * 2 ^ 20
+root-le : (wide high : ℕ) → IsShape wide high → root wide high ≤ 22 * most_blocks
 unfolding root
-root-le wide high s = root_from-le 20 (base wide high) (IsLevel-base wide high s)
+root-le wide high s = root_from-le 22 (base wide high) (IsLevel-base wide high s)
 
 pub fits_way : (wide high leaf : ℕ) (levels : List Level) → IsShape wide high → leaf < wide * high → levels ≡ levels_of wide high → FitsWay levels (leaf / wide) (leaf % wide)
 fits_way wide high leaf levels s lt e =
-    let few : length (levels_of wide high) ≤ 21 = table_few wide high in
+    let few : length (levels_of wide high) ≤ 23 = table_few wide high in
     subst (λ (l : List Level). FitsWay l (leaf / wide) (leaf % wide)) (sym e) (record {
       few = few;
       fits = λ k k_lt. (
@@ -80,6 +81,6 @@ fits_way wide high leaf levels s lt e =
           subst (λ (l : List ℕ). IsWay (parent wide high) (root wide high) leaf l) (sym same) (way_is wide high leaf s lt) in
           let le : get_or (nodes_over (levels_of wide high) (leaf / wide) (leaf % wide)) k 0 ≤ root wide high =
           way_under (parent wide high) (root wide high) leaf (nodes_over (levels_of wide high) (leaf / wide) (leaf % wide)) w k (omega arith) in
-          let r : root wide high ≤ 20 * 2 ^ 20 = root-le wide high s in
+          let r : root wide high ≤ 22 * most_blocks = root-le wide high s in
           omega arith);
     })

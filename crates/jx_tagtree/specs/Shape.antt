@@ -2,11 +2,12 @@
 -- within a level. Each level is half as wide and high as the one below, rounded up.
 use Rattle.std.specs.Prelude.{ℕ, zero, suc, ◌+◌, ◌-◌, ◌*◌, ◌/◌, ◌%◌, ◌^◌, ◌<◌, ◌≤◌, nat_lt, nat_le, Bool, ◌&&◌, List, [], ◌∷◌, length, slice_index, if◌then◌else◌}
 use Rattle.jx_tagtree.specs.declared.shape.Level.{Level}
+use Rattle.jx_base.specs.Limits.{most_blocks}
 
 -- the sizes that a tag tree may have, in leaves
 pub record IsShape (wide high : ℕ) : Type 0 where
   pub some : 1 ≤ wide * high
-  pub few : wide * high ≤ 2 ^ 20
+  pub few : wide * high ≤ most_blocks
 
 -- the level of the leaves
 abbrev pub base : ℕ → ℕ → Level
@@ -31,7 +32,7 @@ root_from zero level = level.first
 root_from (suc n) level = if is_root level then level.first else root_from n (over level)
 
 unfoldable pub root : ℕ → ℕ → ℕ
-root wide high = root_from 20 (base wide high)
+root wide high = root_from 22 (base wide high)
 
 -- the parent of a node in a level or at most n above
 abbrev pub parent_from : ℕ → Level → ℕ → ℕ
@@ -39,7 +40,7 @@ parent_from zero level node = node
 parent_from (suc n) level node = if nat_lt node (over level).first then parent_at level node else parent_from n (over level) node
 
 unfoldable pub parent : ℕ → ℕ → ℕ → ℕ
-parent wide high node = parent_from 20 (base wide high) node
+parent wide high node = parent_from 22 (base wide high) node
 
 -- the way from a node of a level up to the root
 abbrev pub way_from : ℕ → Level → ℕ → List ℕ
@@ -48,7 +49,7 @@ way_from (suc n) level node = if is_root level then node ∷ [] else node ∷ wa
 
 -- the way from a leaf to the root: the leaf first, and behind each node its parent
 unfoldable pub way : ℕ → ℕ → ℕ → List ℕ
-way wide high leaf = way_from 20 (base wide high) leaf
+way wide high leaf = way_from 22 (base wide high) leaf
 
 -- the levels from one up to the root's, of which at most n are above it
 abbrev pub levels_from : ℕ → Level → List Level
@@ -56,7 +57,7 @@ levels_from zero level = level ∷ []
 levels_from (suc n) level = if is_root level then level ∷ [] else level ∷ levels_from n (over level)
 
 unfoldable pub levels_of : ℕ → ℕ → List Level
-levels_of wide high = levels_from 20 (base wide high)
+levels_of wide high = levels_from 22 (base wide high)
 
 -- the node of a level that stands down and across from the level's first
 abbrev pub node_in : Level → ℕ → ℕ → ℕ
@@ -69,7 +70,7 @@ nodes_over (level ∷ levels) down across = node_in level down across ∷ nodes_
 
 -- what is true of the fields of a way
 pub record FitsWay (levels : List Level) (down across : ℕ) : Type 0 where
-  pub few : length levels ≤ 21
+  pub few : length levels ≤ 23
   pub fits : (k : ℕ) → k < length levels → slice_index (nodes_over levels down across) k < 2 ^ 32
 
 -- a level with at most n above it
@@ -78,9 +79,9 @@ pub record IsLevel (n : ℕ) (level : Level) : Type 0 where
   pub some_high : 1 ≤ level.high
   pub wide : level.wide ≤ 2 ^ n
   pub high : level.high ≤ 2 ^ n
-  pub few : level.wide * level.high ≤ 2 ^ 20
-  pub within : n ≤ 20
-  pub first : level.first ≤ (20 - n) * 2 ^ 20
+  pub few : level.wide * level.high ≤ most_blocks
+  pub within : n ≤ 22
+  pub first : level.first ≤ (22 - n) * most_blocks
 
 -- a node of a level
 pub record InLevel (level : Level) (node : ℕ) : Type 0 where

@@ -2,6 +2,7 @@
 
 ghost use Rattle.std.specs.Prelude.{◌≡◌, ℕ, ◌+◌, ◌-◌, ◌*◌, ◌/◌, ◌^◌, ◌<◌, ◌≤◌, ◌↔◌, List, [], ◌∷◌, ◌++◌, length, slice_index, IsTrue, IfOk};
 ghost use Rattle.jx_tagtree.specs.Shape.{IsShape, IsLevel, is_root, over, levels_of, node_in, way, root};
+ghost use Rattle.jx_base.specs.Limits.{most_blocks};
 
 use jx_base::NoMemory;
 use std::alloc::Global;
@@ -24,10 +25,10 @@ fn is_top(level: Level) -> bool
 
 /// The level above.
 fn next(level: Level) -> Level
-    requires sizes { level.wide * level.high ≤ 2 ^ 20 }
-    requires wide { level.wide ≤ 2 ^ 20 }
-    requires high { level.high ≤ 2 ^ 20 }
-    requires first { level.first ≤ 20 * 2 ^ 20 }
+    requires sizes { level.wide * level.high ≤ most_blocks }
+    requires wide { level.wide ≤ most_blocks }
+    requires high { level.high ≤ most_blocks }
+    requires first { level.first ≤ 22 * most_blocks }
     ensures { result ≡ over level }
 {
     Level {
@@ -37,7 +38,7 @@ fn next(level: Level) -> Level
     }
 }
 
-/// The levels of a tag tree, from that of the leaves up to that of the root: at most 21.
+/// The levels of a tag tree, from that of the leaves up to that of the root: at most 23.
 pub(crate) fn table(alloc: Global, wide: u32, high: u32) -> Result<Vec<Level>, NoMemory>
     requires { IsShape wide high }
     ensures { IfOk result (λ levels. levels.items ≡ levels_of wide high) }

@@ -36,7 +36,7 @@ impl Model for TagReader {
 }
 
 impl TagReader {
-    /// A tag tree of `wide` by `high` leaves, 1 to 2^20 in all, of which nothing is known.
+    /// A tag tree of `wide` by `high` leaves, 1 to 2^22 in all, of which nothing is known.
     pub fn new(alloc: Global, wide: u32, high: u32) -> Result<TagReader, NoMemory>
         requires { IsShape wide high }
         ensures fresh { IfOk result (λ tree. tree ≡ fresh wide high) }

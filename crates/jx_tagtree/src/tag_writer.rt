@@ -36,7 +36,7 @@ impl Model for TagWriter {
 }
 
 impl TagWriter {
-    /// A tag tree of `wide` by `high` leaves, 1 to 2^20 in all, in raster order, of which nothing was told.
+    /// A tag tree of `wide` by `high` leaves, 1 to 2^22 in all, in raster order, of which nothing was told.
     pub fn new(alloc: Global, wide: u32, high: u32, leaves: &[u32]) -> Result<TagWriter, NoMemory>
         requires shape { IsShape wide high }
         requires leaves { length leaves.now ≡ wide * high }

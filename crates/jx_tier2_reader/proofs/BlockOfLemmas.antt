@@ -1,5 +1,5 @@
 -- What holds of each block that is gathered.
-use Rattle.std.proofs.Common.{map, ◌≡◌, ℕ, ◌+◌, ◌<◌, ◌≤◌, ◌^◌, List, [], ◌∷◌, length, refl, sym, ap, ◌∙◌, subst, arith, Some, None, Option, All, append-nil}
+use Rattle.std.proofs.Common.{map, ◌≡◌, ℕ, ◌+◌, ◌<◌, ◌≤◌, List, [], ◌∷◌, length, refl, sym, ap, ◌∙◌, subst, arith, Some, None, Option, All, append-nil}
 use Rattle.std.specs.Prelude.{slice_get}
 use Rattle.std.specs.List.{AllByRecursion, Contains}
 use Rattle.std.proofs.lemmas.List.Elements.{All-from_recursion}
@@ -42,6 +42,7 @@ use Rattle.jx_tier2_reader.proofs.CutRuns.{cut_over}
 use Rattle.jx_tier2_reader.proofs.LeafLemmas.{LeafOf, block_leaf}
 use Rattle.jx_tier2_reader.proofs.SoundLemmas.{fresh_unknown, IsBegun, OfNumber, own_have, begun_leaves, read_begun}
 use Rattle.jx_geom.proofs.SameLemmas.{same_sum as sum_same}
+use Rattle.jx_base.specs.Limits.{most_bytes}
 
 -- ---- one block
 none_mapped : (founds : List FoundPiece) → pieces_in founds ≡ [] → founds ≡ []
@@ -107,7 +108,7 @@ count_of s t = tile_blocks (tile_rect (canvas_of s.siz) t) (shapes_of s t)
 tile_long : (b : List ℕ) (s : Stream) (t : ℕ) (blocks : List Block) → AreTileBlocks b s t blocks → length blocks ≡ count_of s t
 tile_long b s t blocks are = ap (λ (l : List Block). length l) are.2 ∙ blocks_long s (geometry s t) (founds_of (geometry s t) are.0)
 
-tile_found : (b : List ℕ) (s : Stream) (t : ℕ) (blocks : List Block) (n : BlockName) → IsRead b s → length b ≤ 2 ^ 28 → totals_fault s ≡ None → t < tile_number s.siz → AreTileBlocks b s t blocks
+tile_found : (b : List ℕ) (s : Stream) (t : ℕ) (blocks : List Block) (n : BlockName) → IsRead b s → length b ≤ most_bytes → totals_fault s ≡ None → t < tile_number s.siz → AreTileBlocks b s t blocks
     → HasBlock (geometry s t) n → IsFoundOf s n (slice_get blocks (number_in_tile (geometry s t) n))
 tile_found b s t blocks n read few none inside are has =
     let g : Geometry = geometry s t in
@@ -122,7 +123,7 @@ tile_found b s t blocks n read few none inside are has =
     ap (λ (l : List Block). slice_get l (number_in_tile g n)) are.2 ∙ block_there s g (founds_of g cuts) n has in
     subst (λ (o : Option Block). IsFoundOf s n o) (sym found) is
 
-pub blocks_of_stream : (b : List ℕ) (s : Stream) (blocks : List Block) → IsRead b s → length b ≤ 2 ^ 28 → totals_fault s ≡ None → IsGathered b s blocks → AreBlocksOf s blocks
+pub blocks_of_stream : (b : List ℕ) (s : Stream) (blocks : List Block) → IsRead b s → length b ≤ most_bytes → totals_fault s ≡ None → IsGathered b s blocks → AreBlocksOf s blocks
 unfolding block_number
 blocks_of_stream b s blocks read few none given =
     let count : ℕ → ℕ = λ t. length (given.tiles t) in

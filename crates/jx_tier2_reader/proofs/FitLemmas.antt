@@ -1,5 +1,5 @@
 -- The blocks of a stream fit the leaves of its precincts, as headers are written for them.
-use Rattle.std.proofs.Common.{◌≡◌, ℕ, zero, suc, ◌+◌, ◌-◌, ◌*◌, ◌<◌, ◌≤◌, ◌==◌, ◌^◌, nat_lt, Bool, true, false, List, [], ◌∷◌, ◌++◌, length, map, take, drop, refl, sym, ap, ◌∙◌, subst, cond, arith, Some, None, Option, inl, inr, All}
+use Rattle.std.proofs.Common.{◌≡◌, ℕ, zero, suc, ◌+◌, ◌-◌, ◌*◌, ◌<◌, ◌≤◌, ◌==◌, nat_lt, Bool, true, false, List, [], ◌∷◌, ◌++◌, length, map, take, drop, refl, sym, ap, ◌∙◌, subst, cond, arith, Some, None, Option, inl, inr, All}
 use Rattle.std.specs.Prelude.{slice_get}
 use Rattle.std.specs.List.{AllByRecursion, range_with_len}
 use Rattle.std.proofs.lemmas.Bool.{cases_lt, cases_eq}
@@ -44,6 +44,7 @@ use Rattle.jx_tier2_reader.proofs.PlannedLemmas.{parts_of_pieces, leaves_long, s
 use Rattle.jx_codestream.proofs.RangeLemmas.{read_in_range}
 use Rattle.jx_tile.proofs.TotalLemmas.{geometry_fits}
 use Rattle.jx_tile.specs.Cells.{sizes_of, precinct_bands}
+use Rattle.jx_base.specs.Limits.{most_bytes}
 
 -- ---- the parts of a block
 passes_before_is : (layer j : ℕ) (qs : List PieceValue) → passes_before layer (map (leaf_part_of j) qs) ≡ passes_below layer qs
@@ -96,7 +97,7 @@ fits_pieces style layers planes j z passes (q ∷ qs) a most low few cuts =
       cuts = λ layer. layer_cut style j layer (q ∷ qs) (few layer) cuts;
     }
 
-short_pieces : (j : ℕ) (qs : List PieceValue) → bytes_in qs ≤ 2 ^ 28 → HasShort (map (leaf_part_of j) qs)
+short_pieces : (j : ℕ) (qs : List PieceValue) → bytes_in qs ≤ most_bytes → HasShort (map (leaf_part_of j) qs)
 short_pieces j [] few = tt
 short_pieces j (q ∷ qs) few =
     let sum : bytes_in (q ∷ qs) ≡ length q.bytes + bytes_in qs = sum_by-cons (λ (x : PieceValue). length x.bytes) q qs in

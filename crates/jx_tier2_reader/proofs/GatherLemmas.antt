@@ -1,5 +1,5 @@
 -- The blocks of the tiles, joined, and what follows where a tile is refused.
-use Rattle.std.proofs.Common.{◌≡◌, ◌<◌, ◌≤◌, ◌+◌, ◌∙◌, ℕ, List, [], ◌++◌, sym, ap, subst, arith, inl, inr, Some, None, length, ◌^◌}
+use Rattle.std.proofs.Common.{◌≡◌, ◌<◌, ◌≤◌, ◌+◌, ◌∙◌, ℕ, List, [], ◌++◌, sym, ap, subst, arith, inl, inr, Some, None, length}
 use Rattle.std.proofs.lemmas.Bool.Decides.{nat_tests}
 use Rattle.std.proofs.lemmas.Bool.{cases_eq}
 use Rattle.std.specs.List.{All}
@@ -19,6 +19,7 @@ use Rattle.jx_tier2_reader.specs.Gathered.{AreTileBlocks, IsGathered, BreaksTile
 use Rattle.jx_tier2_reader.specs.Joined.{HasCuts, IsGatheredTo, RefusesTile, with_tile}
 use Rattle.jx_base.specs.Joined.{joined}
 use Rattle.jx_base.proofs.Joined.{joined_none, joined_next, joined_same}
+use Rattle.jx_base.specs.Limits.{most_bytes}
 
 pub gathered_none : (b : List ℕ) (s : Stream) → IsGatheredTo b s 0 []
 gathered_none b s = record {
@@ -94,7 +95,7 @@ pub well_formed : (b : List ℕ) (s : Stream) (blocks : List Block) → IsRead b
 well_formed b s blocks read gathered = record { stream = s; spelled = read.spelled; blocks = blocks; gathered = gathered }
 
 -- the blocks of a tile are sound
-pub tile_sound : (b : List ℕ) (s : Stream) (t : ℕ) (blocks : List Block) → IsRead b s → length b ≤ 2 ^ 28 → t < tile_number s.siz → totals_fault s ≡ None
+pub tile_sound : (b : List ℕ) (s : Stream) (t : ℕ) (blocks : List Block) → IsRead b s → length b ≤ most_bytes → t < tile_number s.siz → totals_fault s ≡ None
     → AreTileBlocks b s t blocks → All IsSound blocks
 tile_sound b s t blocks read short inside totals are =
     subst (λ (xs : List Block). All IsSound xs) (sym are.2) (sound_blocks b s t are.0 read short inside totals are.1)

@@ -18,6 +18,7 @@ use Rattle.jx_packet_header.proofs.FreshLemmas.{block_left, block_right}
 use Rattle.jx_packet_header.proofs.PacketLemmas.{bits_few}
 use Rattle.jx_packet_header.proofs.WriteLemmas.{other_same as entry_other}
 use Rattle.jx_base.proofs.PieceLemmas.{alone, longer}
+use Rattle.jx_base.specs.Limits.{most_blocks}
 
 -- ---- parts
 -- those of one block
@@ -429,7 +430,7 @@ state_kept bytes k parts used after short s p =
     let few : length (bits_of bytes).bits ≤ 8 * length bytes = bits_few 0 bytes in
     let bits : length (header_bits k p.header) ≤ 2 ^ 67 = omega arith in
     let blocks : length (all_blocks after.bands) ≡ length (all_blocks k.bands) = kept.blocks in
-    let most : length (all_blocks k.bands) ≤ 2 ^ 20 = s.few in
+    let most : length (all_blocks k.bands) ≤ most_blocks = s.few in
     record {
       bands = subst (λ (a : State). AreBands a.bands) (sym p.after_is) (header_state k p.header p.header.some s.bands bits p.is);
       few = omega arith;

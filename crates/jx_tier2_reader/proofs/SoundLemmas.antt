@@ -57,6 +57,7 @@ use Rattle.jx_geom.proofs.EmptyLemmas.{zero_left as product_zero}
 use Rattle.jx_base.proofs.Joined.{joined_all}
 use Rattle.jx_tile.specs.Cells.{sizes_of, precinct_bands}
 use Rattle.jx_tier2_reader.specs.Fresh.{fresh_precinct}
+use Rattle.jx_base.specs.Limits.{most_bytes}
 
 -- ---- a precinct before its first packet
 pub fresh_unknown : (bs : List BandCells) (j : ℕ) → get_or (all_blocks (fresh_bands bs)) j unknown_block ≡ unknown_block
@@ -156,7 +157,7 @@ pub record IsBegun (b : List ℕ) (s : Stream) (t : ℕ) (cuts : List Cut) (left
   pub there : AreThere (geometry s t) cuts
   pub rise : Rise (geometry s t) cuts
   pub are : AreCuts b (geometry s t) 0 (start s t) cuts left
-  pub few : together (tile_at s t).bodies ≤ 2 ^ 28
+  pub few : together (tile_at s t).bodies ≤ most_bytes
 
 there_from : (g : Geometry) (layers : ℕ) (cuts : List Cut) → ((p : PacketName) → Contains (names_of cuts) p → IsPacketName g layers p) → AreThere g cuts
 there_from g layers [] all = tt
@@ -186,7 +187,7 @@ rise_from g (c ∷ cuts) rest there all = (
   rise_from g cuts rest there.1 (pairs_tail Rises c.name (names_of cuts ++ rest) all),
 )
 
-pub begun : (b : List ℕ) (s : Stream) (t : ℕ) (cuts : List Cut) (rest : List PacketName) (left : Left) → StreamInRange s → GeometryInRange (geometry s t) → t < tile_number s.siz → length b ≤ 2 ^ 28 →
+pub begun : (b : List ℕ) (s : Stream) (t : ℕ) (cuts : List Cut) (rest : List PacketName) (left : Left) → StreamInRange s → GeometryInRange (geometry s t) → t < tile_number s.siz → length b ≤ most_bytes →
     DataInRange b (tile_at s t).bodies → IsListOf s t (names_of cuts ++ rest) → AreCuts b (geometry s t) 0 (start s t) cuts left → IsBegun b s t cuts left
 begun b s t cuts rest left range limits tile short bodies list are =
     let entries = (tile_at s t).progressions in
@@ -240,7 +241,7 @@ sound_none s g n size planes = record { size = size; planes = planes; zero = ome
 
 -- it has some
 sound_some : (s : Stream) (g : Geometry) (n : BlockName) (own : List FoundPiece) (new : Known) → HasBlockSize (block_rect (rect_of_tile g) (shape_of g n.comp) n.res n.band n.index) →
-    planes_at s g.tile n.comp n.res n.band ≤ 74 → bytes_in (pieces_in own) ≤ 2 ^ 28 →
+    planes_at s g.tile n.comp n.res n.band ≤ 74 → bytes_in (pieces_in own) ≤ most_bytes →
     Gained (style_of s g.tile n.comp) (planes_at s g.tile n.comp n.res n.band) 0 own unknown_block new → IsSound (block_with s g n own)
 sound_some s g n own new size planes bytes gained =
     let told : zero_from (planes_at s g.tile n.comp n.res n.band) own ≡ gained.z = gained.told in
@@ -279,12 +280,12 @@ sound_block b s t cuts left n h is =
     by (own_founds (number_in_tile (geometry s t) n) (founds_of (geometry s t) cuts)) refl
     (own_have (geometry s t) (number_in_tile (geometry s t) n) (founds_of (geometry s t) cuts) (begun_leaves b s t cuts left h)) few
   where
-    few : bytes_in (pieces_in (own_founds (number_in_tile (geometry s t) n) (founds_of (geometry s t) cuts))) ≤ 2 ^ 28
+    few : bytes_in (pieces_in (own_founds (number_in_tile (geometry s t) n) (founds_of (geometry s t) cuts))) ≤ most_bytes
     few =
         let all : bytes_in (pieces_in (founds_of (geometry s t) cuts)) ≤ together (tile_at s t).bodies = cuts_take b (geometry s t) 0 cuts (start s t) left h.are in
         let own : bytes_in (pieces_in (own_founds (number_in_tile (geometry s t) n) (founds_of (geometry s t) cuts))) ≤ bytes_in (pieces_in (founds_of (geometry s t) cuts)) =
         bytes_own (number_in_tile (geometry s t) n) (founds_of (geometry s t) cuts) in
-        let small : together (tile_at s t).bodies ≤ 2 ^ 28 = h.few in
+        let small : together (tile_at s t).bodies ≤ most_bytes = h.few in
         omega arith
 
     size : HasBlockSize (block_rect (rect_of_tile (geometry s t)) (shape_of (geometry s t) n.comp) n.res n.band n.index)
@@ -294,7 +295,7 @@ sound_block b s t cuts left n h is =
     planes = h.range.planes t n.comp n.res n.band h.tile is.resolution is.band
 
     grown : (own : List FoundPiece) (f : FoundPiece) (fs : List FoundPiece) (c r k j : ℕ) (new : Known) → own ≡ f ∷ fs → HasPrecinct (geometry s t) c r k → j < leaves (geometry s t) c r k →
-        number_in_tile (geometry s t) n ≡ leaf_number (geometry s t) c r k j → bytes_in (pieces_in own) ≤ 2 ^ 28 →
+        number_in_tile (geometry s t) n ≡ leaf_number (geometry s t) c r k j → bytes_in (pieces_in own) ≤ most_bytes →
         Grows (style_of s t c) (planes_of (fresh_precinct s (geometry s t) c r k).bands j) 0 own (known_in (fresh_precinct s (geometry s t) c r k).bands j) new → IsSound (block_with s (geometry s t) n own)
     grown own f fs c r k j new e there lt number small (inl none) = absurd (let z : length (f ∷ fs) ≡ 0 = ap (λ (l : List FoundPiece). length l) (sym e ∙ none.0) in omega arith)
     grown own f fs c r k j new e there lt number small (inr gained) =
@@ -302,7 +303,7 @@ sound_block b s t cuts left n h is =
         (same_gained s (geometry s t) n c r k j own new is (leaf_there (geometry s t) c r k j h.limits there lt) lt number gained)
 
     by : (own : List FoundPiece) → own_founds (number_in_tile (geometry s t) n) (founds_of (geometry s t) cuts) ≡ own → AllByRecursion (OfNumber (geometry s t) (number_in_tile (geometry s t) n)) own →
-        bytes_in (pieces_in own) ≤ 2 ^ 28 → IsSound (block_with s (geometry s t) n own)
+        bytes_in (pieces_in own) ≤ most_bytes → IsSound (block_with s (geometry s t) n own)
     by [] e all small = sound_none s (geometry s t) n size planes
     by (f ∷ fs) e all small =
         let leaf : FromLeaf (geometry s t) f = all.0.leaf in
@@ -361,18 +362,18 @@ put_cuts b s t cuts left h =
     (All-from_recursion (IsOfBlock (geometry s t)) (founds_of (geometry s t) cuts) (of_blocks (geometry s t) (founds_of (geometry s t) cuts) h.limits (begun_leaves b s t cuts left h)))
 
 -- ---- of a codestream that is read
-pub read_begun : (b : List ℕ) (s : Stream) (t : ℕ) (cuts : List Cut) (rest : List PacketName) (left : Left) → IsRead b s → length b ≤ 2 ^ 28 → t < tile_number s.siz → totals_fault s ≡ None →
+pub read_begun : (b : List ℕ) (s : Stream) (t : ℕ) (cuts : List Cut) (rest : List PacketName) (left : Left) → IsRead b s → length b ≤ most_bytes → t < tile_number s.siz → totals_fault s ≡ None →
     IsListOf s t (names_of cuts ++ rest) → AreCuts b (geometry s t) 0 (start s t) cuts left → IsBegun b s t cuts left
 read_begun b s t cuts rest left read short tile totals list are =
     let range : StreamInRange s = read_in_range b s read in
     begun b s t cuts rest left range (geometry_fits s t range totals tile) tile short (read_data b s t read tile) list are
 
-pub sound_blocks : (b : List ℕ) (s : Stream) (t : ℕ) (cuts : List Cut) → IsRead b s → length b ≤ 2 ^ 28 → t < tile_number s.siz → totals_fault s ≡ None → IsCutUp b s t cuts →
+pub sound_blocks : (b : List ℕ) (s : Stream) (t : ℕ) (cuts : List Cut) → IsRead b s → length b ≤ most_bytes → t < tile_number s.siz → totals_fault s ≡ None → IsCutUp b s t cuts →
     All IsSound (blocks_of_tile s (geometry s t) (founds_of (geometry s t) cuts))
 sound_blocks b s t cuts read short tile totals up =
     sound_cuts b s t cuts up.end (read_begun b s t cuts [] up.end read short tile totals (subst (λ (l : List PacketName). IsListOf s t l) (sym (append-nil (names_of cuts))) up.order) up.are)
 
-pub sound_gathered : (b : List ℕ) (s : Stream) (blocks : List Block) → IsRead b s → length b ≤ 2 ^ 28 → totals_fault s ≡ None → IsGathered b s blocks → All IsSound blocks
+pub sound_gathered : (b : List ℕ) (s : Stream) (blocks : List Block) → IsRead b s → length b ≤ most_bytes → totals_fault s ≡ None → IsGathered b s blocks → All IsSound blocks
 sound_gathered b s blocks read short totals g =
     subst (λ (l : List Block). All IsSound l) (sym g.blocks_are) (joined_all IsSound g.tiles (tile_number s.siz) each)
   where

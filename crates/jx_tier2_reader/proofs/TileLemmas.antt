@@ -37,6 +37,7 @@ use Rattle.jx_tier2_reader.proofs.ReadyLemmas.{keeps, precincts}
 use Rattle.jx_tier2_reader.proofs.PacketLemmas.{cause_on}
 use Rattle.jx_tier2_reader.proofs.PieceLemmas.{one_long}
 use Rattle.jx_codestream.specs.declared.faults.StreamFault.TheVariants as fault
+use Rattle.jx_base.specs.Limits.{most_bytes}
 
 -- ---- the data of tile-parts
 pub inside_due : (b : List ℕ) (bodies : List Body) (body : Body) (later : List Body) → AreInside b bodies → due bodies ≡ body ∷ later → AreInside b (body ∷ later)
@@ -406,7 +407,7 @@ first_inside b bodies all inside is =
 pub window_short : (b : List ℕ) (body : Body) (w : List ℕ) → w ≡ window b body → length w ≤ body.length
 window_short b body w is = omega (arith, ap length is, length-take body.length (drop body.at b))
 
-pub window_fits : (b : List ℕ) (body : Body) (later : List Body) (w : List ℕ) → length b ≤ 2 ^ 28 → AreInside b (body ∷ later) → w ≡ window b body → body.at + length w < 2 ^ 32
+pub window_fits : (b : List ℕ) (body : Body) (later : List Body) (w : List ℕ) → length b ≤ most_bytes → AreInside b (body ∷ later) → w ≡ window b body → body.at + length w < 2 ^ 32
 window_fits b body later w fits inside is =
     let low : length w ≤ body.length = window_short b body w is in
     let within : body.at + body.length ≤ length b = All-head (λ (y : Body). y.at + y.length ≤ length b) body later inside in

@@ -21,6 +21,7 @@ use Rattle.jx_tier2_reader.specs.InRange.{DataInRange}
 use Rattle.jx_tile.specs.Totals.{totals_fault}
 use Rattle.jx_tier2_reader.specs.Blocks.{FoundPiece, zero_in, founds_of, blocks_of_tile}
 use Rattle.jx_tier2_reader.specs.Put.{put_all}
+use Rattle.jx_base.specs.Limits.{most_bytes}
 
 abbrev pub cut_of : PacketName → Packet → State → Cut
 cut_of name p after = record { name = name; count = p.count; used = p.used; parts = p.parts.items; bytes = p.bytes.now; after = after }
@@ -66,7 +67,7 @@ pub record IsFront (b : List ℕ) (s : Stream) (t : ℕ) (done : List PacketName
 
 -- what a tile's packets are read by
 pub record IsTask (b : List ℕ) (s : Stream) (g : Geometry) (list : List PacketName) : Type 0 where
-  pub fits : length b ≤ 2 ^ 28
+  pub fits : length b ≤ most_bytes
   pub range : StreamInRange s
   pub totals : totals_fault s ≡ None
   pub below : g.tile < tile_number s.siz

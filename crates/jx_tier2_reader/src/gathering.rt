@@ -1,6 +1,6 @@
 //! The code-blocks of a whole codestream, tile by tile.
 
-ghost use Rattle.std.specs.Prelude.{◌≡◌, ◌≤◌, ◌<◌, ◌^◌, ◌++◌, ℕ, List, None, length, IfOk, IfErr, OnOk};
+ghost use Rattle.std.specs.Prelude.{◌≡◌, ◌≤◌, ◌<◌, ◌++◌, ℕ, List, None, length, IfOk, IfErr, OnOk};
 ghost use Rattle.std.specs.List.{All};
 ghost use Rattle.jx_base.specs.declared.pieces.Block.{Block};
 ghost use Rattle.jx_base.specs.Sound.{IsSound};
@@ -15,6 +15,7 @@ ghost use Rattle.jx_tier2_reader.specs.BlockOf.{AreBlocksOf};
 ghost use Rattle.jx_tier2_reader.specs.Gathered.{IsBroken, IsGathered};
 ghost use Rattle.jx_tier2_reader.specs.Joined.{HasCuts, RefusesTile};
 ghost use Rattle.jx_tier2_reader.specs.WellFormed.{IsWellFormed};
+ghost use Rattle.jx_base.specs.Limits.{most_bytes};
 
 use crate::StreamFault;
 use crate::tile_blocks::gather_tile;
@@ -69,7 +70,7 @@ fn gather_tiles<'a>(
     requires main { main.now ≡ record { siz = stream.now.siz; main = stream.now.main } }
     requires read { IsRead bytes.now stream.now }
     requires range { StreamInRange stream.now }
-    requires fits { length bytes.now ≤ 2 ^ 28 }
+    requires fits { length bytes.now ≤ most_bytes }
     requires totals { totals_fault stream.now ≡ None }
     ensures gathered { IfOk result (λ blocks. IsGathered bytes.entry.now stream.now blocks.items) }
     ensures sound { IfOk result (λ blocks. All IsSound blocks.items) }
@@ -93,7 +94,7 @@ fn gather_first<'a>(
     stream: &Stream,
 ) -> Result<Vec<Block<'a>>, StreamFault>
     requires read { IsRead bytes.now stream.now }
-    requires fits { length bytes.now ≤ 2 ^ 28 }
+    requires fits { length bytes.now ≤ most_bytes }
     ensures gathered { IfOk result (λ blocks. IsGathered bytes.entry.now stream.now blocks.items) }
     ensures totals { OnOk result (totals_fault stream.now ≡ None) }
     ensures sound { IfOk result (λ blocks. All IsSound blocks.items) }
@@ -112,7 +113,7 @@ fn gather_first<'a>(
 
 /// The code-blocks of a codestream, in the order of their numbers, each with its pieces as slices of the file.
 ///
-/// `stream` is what `read_stream` gives for `bytes`, of which there are at most 2^28. Limits 5 and 6 come first, then rule 25,
+/// `stream` is what `read_stream` gives for `bytes`, of which there are at most 2^32 - 1. Limits 5 and 6 come first, then rule 25,
 /// then, tile by tile and packet by packet, the rules 26 to 31. A block that no packet includes has no passes, and as many
 /// zero planes as planes (T.800, B.7 and B.9 to B.12).
 #[tactic(auto, using(crate::proofs::GatherLemmas::well_formed, crate::proofs::BlockOfLemmas::blocks_of_stream))]
@@ -122,7 +123,7 @@ pub fn gather<'a>(
     stream: &Stream,
 ) -> Result<Vec<Block<'a>>, StreamFault>
     requires read { IsRead bytes.now stream.now }
-    requires fits { length bytes.now ≤ 2 ^ 28 }
+    requires fits { length bytes.now ≤ most_bytes }
     // What is given are the blocks of these bytes, and no others are;
     ensures gathered { IfOk result (λ blocks. IsGathered bytes.entry.now stream.now blocks.items) }
     ensures only { IfOk result (λ blocks. (others : List Block) → IsGathered bytes.entry.now stream.now others → blocks.items ≡ others) }

@@ -24,6 +24,7 @@ ghost use Rattle.jx_tier2_reader.specs.Carries.{AllCarry};
 ghost use Rattle.jx_tier2_reader.specs.Planned.{ArePlanned, leaves_of_blocks};
 ghost use Rattle.jx_tier2_reader.specs.WellFormed.{IsWellFormed};
 ghost use Rattle.jx_tier2_reader.specs.Written.{AreFilled, AreWritten, IsLaid, Packets, cuts_at, laid_blocks, packets_in};
+ghost use Rattle.jx_base.specs.Limits.{most_bytes};
 
 use jx_progression::laws::orders_exist;
 
@@ -60,8 +61,8 @@ pub fn gathered_is_well_formed()
 /// headers say, and pieces in layers of its tile, in one layer of at most 164 passes and cut at the ends of segments; each block can
 /// be recoded or kept.
 pub fn blocks_are_named()
-    ensures named { (b : List ℕ) (s : Stream) (blocks : List Block) → IsRead b s → length b ≤ 2 ^ 28 → totals_fault s ≡ None → IsGathered b s blocks → AreBlocksOf s blocks }
-    ensures sound { (b : List ℕ) (s : Stream) (blocks : List Block) → IsRead b s → length b ≤ 2 ^ 28 → totals_fault s ≡ None → IsGathered b s blocks → All IsSound blocks }
+    ensures named { (b : List ℕ) (s : Stream) (blocks : List Block) → IsRead b s → length b ≤ most_bytes → totals_fault s ≡ None → IsGathered b s blocks → AreBlocksOf s blocks }
+    ensures sound { (b : List ℕ) (s : Stream) (blocks : List Block) → IsRead b s → length b ≤ most_bytes → totals_fault s ≡ None → IsGathered b s blocks → All IsSound blocks }
 {}
 
 /// A tile whose packets stand one after another in the order of its entries, cut into tile-parts between them, is cut up into

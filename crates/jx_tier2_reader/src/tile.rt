@@ -1,6 +1,6 @@
 //! The packets of one tile (ITU-T T.800, B.9 to B.12).
 
-ghost use Rattle.std.specs.Prelude.{◌≡◌, ◌≤◌, ◌<◌, ◌+◌, ◌^◌, [], length, take, IfErr, OnOk};
+ghost use Rattle.std.specs.Prelude.{◌≡◌, ◌≤◌, ◌<◌, ◌+◌, [], length, take, IfErr, OnOk};
 ghost use Rattle.jx_tile.specs.Faults.{HasCause};
 ghost use Rattle.jx_codestream.specs.Shapes.{tile_at};
 ghost use Rattle.jx_tile.specs.Frame.{AreOfTile};
@@ -10,6 +10,7 @@ ghost use Rattle.jx_tile.specs.Covered.{IsListOf, IsWhole};
 ghost use Rattle.jx_tier2_reader.specs.Gathered.{AreTileBlocks, BreaksTile};
 ghost use Rattle.jx_tier2_reader.specs.InRange.{DataInRange};
 ghost use Rattle.jx_tier2_reader.specs.Reading.{AreInside, IsFront, IsTask};
+ghost use Rattle.jx_base.specs.Limits.{most_bytes};
 
 use crate::StreamFault;
 use crate::fresh::precincts_of;
@@ -128,7 +129,7 @@ pub(crate) fn read_tile<'a>(
     list: &[PacketName],
     blocks: &mut Vec<Block<'a>>,
 ) -> Result<(), StreamFault>
-    requires fits { length bytes.now ≤ 2 ^ 28 }
+    requires fits { length bytes.now ≤ most_bytes }
     requires tile { AreOfTile stream.now view.now geom.now }
     requires order { IsListOf stream.now geom.now.tile list.now }
     requires whole { IsWhole stream.now geom.now.tile }

@@ -1,6 +1,6 @@
 //! The code-blocks of one tile.
 
-ghost use Rattle.std.specs.Prelude.{◌≡◌, ◌≤◌, ◌<◌, ◌^◌, None, length, IfOk, IfErr, OnOk};
+ghost use Rattle.std.specs.Prelude.{◌≡◌, ◌≤◌, ◌<◌, None, length, IfOk, IfErr, OnOk};
 ghost use Rattle.std.specs.List.{All};
 ghost use Rattle.jx_base.specs.Sound.{IsSound};
 ghost use Rattle.jx_codestream.specs.First.{tile_number};
@@ -11,6 +11,7 @@ ghost use Rattle.jx_tile.specs.Faults.{HasCause};
 ghost use Rattle.jx_tile.specs.Totals.{totals_fault};
 ghost use Rattle.jx_tier2_reader.specs.Gathered.{AreTileBlocks};
 ghost use Rattle.jx_tier2_reader.specs.Joined.{RefusesTile};
+ghost use Rattle.jx_base.specs.Limits.{most_bytes};
 
 use crate::StreamFault;
 use crate::fresh::blocks_of;
@@ -27,7 +28,7 @@ fn read_blocks<'a>(
     frame: &TileFrame<'_>,
 ) -> Result<Vec<Block<'a>>, StreamFault>
     requires read { IsRead bytes.now frame.now.stream }
-    requires fits { length bytes.now ≤ 2 ^ 28 }
+    requires fits { length bytes.now ≤ most_bytes }
     ensures blocks { IfOk result (λ blocks. AreTileBlocks bytes.entry.now frame.now.stream frame.now.number blocks.items) }
     ensures whole { OnOk result (IsWhole frame.now.stream frame.now.number) }
     ensures sound { IfOk result (λ blocks. All IsSound blocks.items) }
@@ -56,7 +57,7 @@ pub(crate) fn gather_tile<'a>(
     requires main { main.now ≡ record { siz = stream.now.siz; main = stream.now.main } }
     requires read { IsRead bytes.now stream.now }
     requires range { StreamInRange stream.now }
-    requires fits { length bytes.now ≤ 2 ^ 28 }
+    requires fits { length bytes.now ≤ most_bytes }
     requires totals { totals_fault stream.now ≡ None }
     requires tile { tile < tile_number stream.now.siz }
     ensures blocks { IfOk result (λ blocks. AreTileBlocks bytes.entry.now stream.now tile blocks.items) }

@@ -1,5 +1,5 @@
 -- A written file has the blocks that it was written from, and headers and packets give one file alone.
-use Rattle.std.proofs.Common.{◌≡◌, ◌∙◌, ◌<◌, ◌≤◌, ◌^◌, ◌++◌, ℕ, true, false, append-nil, arith, List, [], length, map, take, drop, ◌+◌, refl, sym, ap, subst, None, Some, inl, inr, ◌⊎◌}
+use Rattle.std.proofs.Common.{◌≡◌, ◌∙◌, ◌<◌, ◌≤◌, ◌++◌, ℕ, true, false, append-nil, arith, List, [], length, map, take, drop, ◌+◌, refl, sym, ap, subst, None, Some, inl, inr, ◌⊎◌}
 use Rattle.std.proofs.lemmas.List.{length-map}
 use Rattle.std.proofs.lemmas.Bool.{cases_lt}
 use Rattle.std.specs.List.{All, AllByRecursion, list_any, slice_get}
@@ -54,6 +54,7 @@ use Rattle.jx_tier2_writer.proofs.FindLemmas.{IsTold, all_told, index_told, smal
 use Rattle.jx_codestream.proofs.RangeLemmas.{few_tiles}
 use Rattle.jx_tier2_writer.proofs.SameLemmas.{blocks_same, geometry_same, layers_same, packets_same, params_same, planes_same, step_same, totals_same}
 use Rattle.jx_tier2_writer.specs.SameHeaders.{HasHeadersOf}
+use Rattle.jx_base.specs.Limits.{most_bytes}
 
 -- headers are those of jx_packet_header for the blocks, by definition
 planned_is : (m : Marks) (s : Stream) (t : ℕ) (blocks : List Block) → ArePlanned s t blocks (packets_of m s t blocks)
@@ -327,7 +328,7 @@ output_exists m s blocks ready =
     )
 
 -- ---- the blocks of another file
-pub output_keeps : (m : Marks) (s input : Stream) (blocks : List Block) (a b : List ℕ) (out : IsOutput m s blocks b) → IsRead a input → length a ≤ 2 ^ 28 → totals_fault input ≡ None → IsGathered a input blocks
+pub output_keeps : (m : Marks) (s input : Stream) (blocks : List Block) (a b : List ℕ) (out : IsOutput m s blocks b) → IsRead a input → length a ≤ most_bytes → totals_fault input ≡ None → IsGathered a input blocks
     → HaveSameBlocks input s → AreReady m s → AllShort out.parts (tile_number s.siz) → IsGathered b (stream_read m s out.parts) blocks
 output_keeps m s input blocks a b out read small none gathered same ready short =
     output_gathered m s blocks b out ready short (blocks_of_other input s blocks same (blocks_of_stream a input blocks read small none gathered)) (sound_gathered a input blocks read small none gathered)

@@ -28,6 +28,7 @@ use Rattle.jx_tier2_writer.specs.Own.{AreOwnBlocks, HasLeaves, IsSending, leaf_b
 use Rattle.jx_tier2_writer.specs.BlockParts.{AreBlockParts, row_at, row_bytes, rows_of}
 use Rattle.jx_tier2_writer.specs.declared.block_parts.BlockPart.{BlockPart}
 use Rattle.jx_tier2_reader.proofs.FitLemmas.{pieces_total}
+use Rattle.jx_base.specs.Limits.{most_blocks}
 
 -- ---- what holds of each block
 abbrev IsSoundOf : Option Block → Type 0
@@ -47,14 +48,14 @@ layers_get n (b ∷ own) (suc i) all = layers_get n own i all.1
 pub own_has : (s : Stream) (g : Geometry) (own : List Block) (n c r k : ℕ) → n ≡ layers_of s g.tile → GeometryInRange g → HasPrecinct g c r k → AreOwnBlocks s g own → HasLeaves g own n c r k
 own_has s g own n c r k layers range has are =
     let all : length own ≡ tile_blocks (rect_of_tile g) g.shapes = are.all in
-    let most : tile_blocks (rect_of_tile g) g.shapes ≤ 2 ^ 20 = range.limits.blocks in
+    let most : tile_blocks (rect_of_tile g) g.shapes ≤ most_blocks = range.limits.blocks in
     record {
       precinct = has;
       few = leaves_limited g c r k range has;
       there = λ j lt. (let below : leaf_number g c r k j < tile_blocks (rect_of_tile g) g.shapes = leaf_below g c r k j range has lt in subst (λ (m : ℕ). leaf_number g c r k j < m) (sym all) below);
       layers = λ j lt. subst (λ (m : ℕ). HasLayers m (slice_get own (leaf_number g c r k j))) (sym layers)
           (layers_get (layers_of s g.tile) own (leaf_number g c r k j) (recursion_from_All (λ (b : Block). All (λ (q : PieceValue). q.layer < layers_of s g.tile) b.pieces) own are.layers));
-      small = subst (λ (m : ℕ). m ≤ 2 ^ 20) (sym all) most;
+      small = subst (λ (m : ℕ). m ≤ most_blocks) (sym all) most;
     }
 
 -- ---- few passes

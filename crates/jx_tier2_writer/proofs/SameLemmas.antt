@@ -38,6 +38,7 @@ use Rattle.jx_tier2_reader.specs.Another.{HaveSameBlocks, rect_in}
 use Rattle.jx_tier2_reader.specs.BlockOf.{AreBlocksOf, pieces_at}
 use Rattle.jx_tile.specs.Cells.{precinct_bands, sizes_of}
 use Rattle.jx_tier2_reader.specs.Carries.{block_in, carried_bytes, pieces_of}
+use Rattle.jx_base.specs.Limits.{most_blocks}
 
 abbrev pub with_headers : Stream → List Segment → List Tile → Stream
 with_headers s main tiles = record { siz = s.siz; main = main; tiles = tiles }
@@ -87,8 +88,8 @@ module _ (s : Stream) (main : List Segment) (tiles : List Tile) (same : AreAlike
   pub totals_same : totals_fault it ≡ totals_fault s
   unfolding totals_fault
   totals_same =
-      ap (λ (n : ℕ). option_or (passed 5 n (nat_lt (2 ^ 20) n)) (passed 6 (packet_total it) (nat_lt (2 ^ 22) (packet_total it)))) blocks_total_same
-      ∙ ap (λ (n : ℕ). option_or (passed 5 (block_total s) (nat_lt (2 ^ 20) (block_total s))) (passed 6 n (nat_lt (2 ^ 22) n))) packets_total_same
+      ap (λ (n : ℕ). option_or (passed 5 n (nat_lt (most_blocks) n)) (passed 6 (packet_total it) (nat_lt (2 ^ 22) (packet_total it)))) blocks_total_same
+      ∙ ap (λ (n : ℕ). option_or (passed 5 (block_total s) (nat_lt (most_blocks) (block_total s))) (passed 6 n (nat_lt (2 ^ 22) n))) packets_total_same
 
   -- ---- blocks
   same_rect : (n : BlockName) → rect_in s n ≡ rect_in it n

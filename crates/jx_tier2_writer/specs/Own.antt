@@ -1,5 +1,5 @@
 -- Inner: the packets of a tile from the blocks of that tile alone, by their numbers in it.
-use Rattle.std.specs.Prelude.{◌≡◌, ◌<◌, ◌≤◌, ◌^◌, ℕ, List, length, map, slice_get}
+use Rattle.std.specs.Prelude.{◌≡◌, ◌<◌, ◌≤◌, ℕ, List, length, map, slice_get}
 use Rattle.std.specs.List.{All, range_with_len}
 use Rattle.jx_base.specs.declared.pieces.Block.{Block}
 use Rattle.jx_base.specs.Joined.{joined}
@@ -18,6 +18,7 @@ use Rattle.jx_tier2_reader.specs.Planned.{leaf_from}
 use Rattle.jx_tier2_writer.specs.Coded.{HasLayers}
 use Rattle.jx_tier2_writer.specs.BlockParts.{AreBlockParts, layer_bytes, row_at, row_bytes}
 use Rattle.jx_tier2_writer.specs.Sendings.{Sending}
+use Rattle.jx_base.specs.Limits.{most_blocks}
 
 -- one block for each number in the tile, sound ones, with pieces in its layers
 pub record AreOwnBlocks (s : Stream) (g : Geometry) (own : List Block) : Type 0 where
@@ -50,7 +51,7 @@ pub record IsSending (s : Stream) (g : Geometry) (own : List Block) (datas : Lis
 -- what is asked where a precinct's blocks are taken: they are there, not too many, with pieces in so many layers
 pub record HasLeaves (g : Geometry) (own : List Block) (count c r k : ℕ) : Type 0 where
   pub precinct : HasPrecinct g c r k
-  pub few : leaves g c r k ≤ 2 ^ 20
+  pub few : leaves g c r k ≤ most_blocks
   pub there : (j : ℕ) → j < leaves g c r k → leaf_number g c r k j < length own
   pub layers : (j : ℕ) → j < leaves g c r k → HasLayers count (slice_get own (leaf_number g c r k j))
-  pub small : length own ≤ 2 ^ 20
+  pub small : length own ≤ most_blocks

@@ -39,6 +39,7 @@ ghost use Rattle.jx_plan.specs.Planned.{IsFreeBy, MakesLayers, blocks_written, l
 ghost use Rattle.jx_options.specs.Wanted.{MayBeWanted, Wanted};
 ghost use Rattle.jx_plan.specs.Standing.{HeadersStand};
 ghost use Rattle.jx_tier2_writer.specs.TileParts.{AreTilePartsOf, IsOutput};
+ghost use Rattle.jx_base.specs.Limits.{most_bytes};
 
 use jx_codeblock::laws::first_layers_are_final;
 use jx_layers::laws::{breaks_are_told, jobs_have_these_ends};
@@ -75,7 +76,7 @@ pub fn output_is_gathered()
 /// The code-blocks that were gathered from one file stand in the file that is written from them, whatever its headers change of the
 /// order, the precincts, the layers or the marks, as long as they have the same code-blocks and no fewer layers.
 pub fn output_keeps_blocks()
-    ensures { (m : Marks) (s input : Stream) (blocks : List Block) (a b : List ℕ) (out : IsOutput m s blocks b) → IsRead a input → length a ≤ 2 ^ 28 → totals_fault input ≡ None
+    ensures { (m : Marks) (s input : Stream) (blocks : List Block) (a b : List ℕ) (out : IsOutput m s blocks b) → IsRead a input → length a ≤ most_bytes → totals_fault input ≡ None
         → IsGathered a input blocks → HaveSameBlocks input s → AreReady m s → AllShort out.parts (tile_number s.siz)
         → IsGathered b (stream_read m s out.parts) blocks }
 {}

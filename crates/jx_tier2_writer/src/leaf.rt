@@ -1,11 +1,12 @@
 //! The blocks of a precinct as leaves of its tag trees.
 
-ghost use Rattle.std.specs.Prelude.{◌≡◌, ◌≤◌, ◌<◌, ◌^◌, ℕ, length, map, Some, IfOk};
+ghost use Rattle.std.specs.Prelude.{◌≡◌, ◌≤◌, ◌<◌, ℕ, length, map, Some, IfOk};
 ghost use Rattle.jx_geom.specs.Precincts.{HasPrecinct, leaf_number, leaves};
 ghost use Rattle.jx_packet_header.specs.Leafs.{leaf_of};
 ghost use Rattle.jx_tier2_reader.specs.Planned.{leaf_from};
 ghost use Rattle.jx_tier2_writer.specs.Leaves.{leaf_part_from};
 ghost use Rattle.jx_tier2_writer.specs.Own.{own_leaves};
+ghost use Rattle.jx_base.specs.Limits.{most_blocks};
 
 use crate::block_parts::block_at;
 use crate::parts::Coded;
@@ -55,7 +56,7 @@ pub(crate) fn leaves_of<B: Coded>(
     values: &[B],
 ) -> Result<Vec<Leaf>, NoMemory>
     requires precinct { HasPrecinct geom.now comp res precinct }
-    requires few { leaves geom.now comp res precinct ≤ 2 ^ 20 }
+    requires few { leaves geom.now comp res precinct ≤ most_blocks }
     requires all { (j : ℕ) → j < leaves geom.now comp res precinct → leaf_number geom.now comp res precinct j < length values.now }
     ensures { IfOk result (λ made. map leaf_of made.items ≡ own_leaves geom.now (map B.block values.now) comp res precinct) }
 {

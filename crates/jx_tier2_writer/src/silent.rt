@@ -1,8 +1,9 @@
 //! A precinct of which nothing is sent: no block has a part, so each of its packets is empty (ITU-T T.800, B.10.3).
 
-ghost use Rattle.std.specs.Prelude.{◌≡◌, ◌≤◌, ◌<◌, ◌^◌, [], ℕ, true, length, map};
+ghost use Rattle.std.specs.Prelude.{◌≡◌, ◌≤◌, ◌<◌, [], ℕ, true, length, map};
 ghost use Rattle.jx_geom.specs.Precincts.{HasPrecinct, leaf_number, leaves};
 ghost use Rattle.jx_tier2_writer.specs.Silent.{AreSilent};
+ghost use Rattle.jx_base.specs.Limits.{most_blocks};
 
 use crate::block_parts::block_at;
 use crate::parts::Coded;
@@ -24,7 +25,7 @@ pub(crate) fn are_silent<B: Coded>(
     values: &[B],
 ) -> bool
     requires precinct { HasPrecinct geom.now comp res precinct }
-    requires few { leaves geom.now comp res precinct ≤ 2 ^ 20 }
+    requires few { leaves geom.now comp res precinct ≤ most_blocks }
     requires all { (j : ℕ) → j < leaves geom.now comp res precinct → leaf_number geom.now comp res precinct j < length values.now }
     ensures { result ≡ true → AreSilent geom.now (map B.block values.now) comp res precinct }
 {

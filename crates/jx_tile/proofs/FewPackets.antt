@@ -24,6 +24,7 @@ use Rattle.jx_progression.specs.Packets.{IsPacketName}
 use Rattle.jx_progression.specs.declared.names.PacketName.{PacketName}
 use Rattle.jx_codestream.proofs.FaultLemmas.{none_later as later_none}
 use Rattle.jx_progression.proofs.OrderLemmas.{same_fields as same_name}
+use Rattle.jx_base.specs.Limits.{most_blocks}
 
 -- all that are in a list
 pub All-contained : {X : Type 0} (P : X → Type 0) (xs : List X) → ((x : X) → Contains xs x → P x) → All P xs
@@ -99,7 +100,7 @@ few_names g layers ps every pairs =
 pub all_few : (s : Stream) → totals_fault s ≡ None → packet_total s ≤ 2 ^ 22
 unfolding totals_fault
 all_few s h =
-    not_passed 6 (packet_total s) (2 ^ 22) (later_none (passed 5 (block_total s) (nat_lt (2 ^ 20) (block_total s))) (passed 6 (packet_total s) (nat_lt (2 ^ 22) (packet_total s))) h)
+    not_passed 6 (packet_total s) (2 ^ 22) (later_none (passed 5 (block_total s) (nat_lt (most_blocks) (block_total s))) (passed 6 (packet_total s) (nat_lt (2 ^ 22) (packet_total s))) h)
 
 pub packets_few : (s : Stream) (t : ℕ) → totals_fault s ≡ None → t < tile_number s.siz → tile_packets s t ≤ 2 ^ 22
 packets_few s t none inside =

@@ -18,6 +18,7 @@ use Rattle.jx_codestream.proofs.RangeLemmas.{shapes_length}
 use Rattle.jx_base.specs.Joined.{sum_below}
 use Rattle.jx_base.proofs.Sums.{sum_below_more}
 use Rattle.jx_tagtree.proofs.ShapeLemmas.{le_product}
+use Rattle.jx_base.specs.Limits.{most_blocks}
 
 pub blocks_are : (s : Stream) → block_total s ≡ blocks_below (canvas_of s.siz) (shapes_of s) (tile_number s.siz)
 unfolding block_total
@@ -30,7 +31,7 @@ packets_are s = refl
 -- the limits on all bound each tile
 
 record WithinTotals (s : Stream) : Type 0 where
-  pub blocks : block_total s ≤ 2 ^ 20
+  pub blocks : block_total s ≤ most_blocks
   pub packets : packet_total s ≤ 2 ^ 22
 
 pub not_passed : (number found most : ℕ) → passed number found (nat_lt most found) ≡ None → found ≤ most
@@ -43,8 +44,8 @@ first_none (Some f) later h = absurd (cc)
 within_totals : (s : Stream) → totals_fault s ≡ None → WithinTotals s
 unfolding totals_fault
 within_totals s h =
-    let both = first_none (passed 5 (block_total s) (nat_lt (2 ^ 20) (block_total s))) (passed 6 (packet_total s) (nat_lt (2 ^ 22) (packet_total s))) h in
-    record { blocks = not_passed 5 (block_total s) (2 ^ 20) both.0; packets = not_passed 6 (packet_total s) (2 ^ 22) both.1 }
+    let both = first_none (passed 5 (block_total s) (nat_lt (most_blocks) (block_total s))) (passed 6 (packet_total s) (nat_lt (2 ^ 22) (packet_total s))) h in
+    record { blocks = not_passed 5 (block_total s) (most_blocks) both.0; packets = not_passed 6 (packet_total s) (2 ^ 22) both.1 }
 
 pub tile_within : (s : Stream) (t : ℕ) → StreamInRange s → totals_fault s ≡ None → t < tile_number s.siz → WithinLimits (canvas_of s.siz) t (shapes_of s t)
 tile_within s t range none inside =

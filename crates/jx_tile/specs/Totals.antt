@@ -10,6 +10,7 @@ use Rattle.jx_codestream.specs.declared.faults.StreamFault.{StreamFault}
 use Rattle.jx_tile.specs.Faults.{passed}
 use Rattle.jx_codestream.specs.Shapes.{shapes_of, layers_of}
 use Rattle.jx_base.specs.Joined.{sum_below}
+use Rattle.jx_base.specs.Limits.{most_blocks}
 
 -- B.7: every cell of a band that isn't empty is a block
 unfoldable pub block_total : Stream → ℕ
@@ -24,4 +25,4 @@ packet_total s = sum_below (tile_packets s) (tile_number s.siz)
 
 -- limit 5, then limit 6
 unfoldable pub totals_fault : Stream → Option StreamFault
-totals_fault s = option_or (passed 5 (block_total s) (nat_lt (2 ^ 20) (block_total s))) (passed 6 (packet_total s) (nat_lt (2 ^ 22) (packet_total s)))
+totals_fault s = option_or (passed 5 (block_total s) (nat_lt (most_blocks) (block_total s))) (passed 6 (packet_total s) (nat_lt (2 ^ 22) (packet_total s)))

@@ -15,7 +15,7 @@ use Rattle.jx_transcode.specs.declared.status.Status.TheVariants as status
 use Rattle.jx_transcode.proofs.DoneLemmas.{undone}
 use Rattle.jx_transcode.proofs.LeftLemmas.{IsFront, short_told}
 
--- ---- what is done has at most 2^28 bytes
+-- ---- what is done has at most 2^32 - 1 bytes
 pub bare_short : (name : Text) (work : Work) (aim : Aim) (input : List ℕ) (s : Status) (blocks bytes : ℕ) (tape : List TapeEntry) (old new : Meaning) → IsAnswered name work aim input s blocks bytes tape old new → s ≡ status.Done
     → length input ≤ most_bytes
 bare_short name work aim input s blocks bytes tape old new is done =

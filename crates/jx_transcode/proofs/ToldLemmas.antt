@@ -28,6 +28,7 @@ use Rattle.jx_tile.specs.Faults.{passed}
 use Rattle.jx_tier2_reader.specs.Gathered.{IsBroken}
 use Rattle.jx_tile.specs.Totals.{block_total, packet_total, totals_fault}
 use Rattle.jx_transcode.specs.Judged.{BreaksTiles}
+use Rattle.jx_base.specs.Limits.{most_blocks}
 
 abbrev pub IsTold : StreamFault → Type 0
 IsTold (fault.Rule number place) = Unit {0}
@@ -163,9 +164,9 @@ unfolding totals_fault
 totals_told s f e =
     let five : 5 < 7 = omega arith in
     let six : 6 < 7 = omega arith in
-    told_at (option_or (passed 5 (block_total s) (nat_lt (2 ^ 20) (block_total s))) (passed 6 (packet_total s) (nat_lt (2 ^ 22) (packet_total s)))) f
-    (told_or (passed 5 (block_total s) (nat_lt (2 ^ 20) (block_total s))) (passed 6 (packet_total s) (nat_lt (2 ^ 22) (packet_total s)))
-    (told_cond (nat_lt (2 ^ 20) (block_total s)) (Some (fault.Limit 5 (block_total s))) None five tt)
+    told_at (option_or (passed 5 (block_total s) (nat_lt (most_blocks) (block_total s))) (passed 6 (packet_total s) (nat_lt (2 ^ 22) (packet_total s)))) f
+    (told_or (passed 5 (block_total s) (nat_lt (most_blocks) (block_total s))) (passed 6 (packet_total s) (nat_lt (2 ^ 22) (packet_total s)))
+    (told_cond (nat_lt (most_blocks) (block_total s)) (Some (fault.Limit 5 (block_total s))) None five tt)
     (told_cond (nat_lt (2 ^ 22) (packet_total s)) (Some (fault.Limit 6 (packet_total s))) None six tt)) e
 
 pub broken_told : (b : List ℕ) (s : Stream) (f : StreamFault) → IsBroken b s f → IsTold f

@@ -31,7 +31,7 @@ HasCodestream input from inner =
     ((IsJp2 input → ⊥) × (from ≡ 0) × (inner ≡ input))
     ⊎ (IsJp2 input × (boxed : Boxed) × IsCodestream input boxed × (from ≡ boxed.from) × (inner ≡ content input boxed))
 
--- a file of at most 2^28 bytes with a well-formed codestream within the limits
+-- a file of at most 2^32 - 1 bytes with a well-formed codestream within the limits
 pub record IsAccepted (input : List ℕ) (s : Stream) (blocks : List Block) : Type 0 where
   pub within : length input ≤ most_bytes
   pub from : ℕ

@@ -1,6 +1,6 @@
 //! What becomes of an input whose bytes were read.
 
-ghost use Rattle.std.specs.Prelude.{◌≡◌, ◌<◌, ◌≤◌, ◌^◌, ℕ, List, [], length, IfSome, None, Some};
+ghost use Rattle.std.specs.Prelude.{◌≡◌, ◌<◌, ◌≤◌, ℕ, List, [], length, IfSome, None, Some};
 ghost use Rattle.jx_io.specs.Causes.{Rose};
 ghost use Rattle.jx_codestream.specs.InRange.{StreamInRange};
 ghost use Rattle.jx_codestream.specs.Read.{IsRead};
@@ -14,6 +14,7 @@ ghost use Rattle.jx_transcode.specs.Jp2Run.{IsPlaced};
 ghost use Rattle.jx_transcode.specs.Misfits.{HasTile, IsMisfitBy, IsMisfitOf};
 ghost use Rattle.jx_transcode.specs.Outcome.{most_bytes};
 ghost use Rattle.jx_transcode.specs.Rewritten.{ReadsLeft};
+ghost use Rattle.jx_base.specs.Limits.{most_blocks};
 
 use crate::Status;
 use crate::device::MOST;
@@ -176,7 +177,7 @@ fn refused_by(alloc: Global, fault: StreamFault) -> Ending
 
 /// How many of the blocks are coded anew.
 fn anew_in(jobs: &[Job<'_>]) -> u32
-    requires { length jobs.now ≤ 2 ^ 20 }
+    requires { length jobs.now ≤ most_blocks }
     ensures { result ≡ anew_in jobs.now }
 {
     let mut count = 0;

@@ -60,7 +60,7 @@ impl Status {
     ghost use Rattle.std.specs.Prelude.{◌≡◌};
     ghost use Rattle.jx_transcode.specs.Outcome.{number_of};
 
-    /// Limit 1 is passed: the input has over 2^28 bytes, of which one more is read.
+    /// Limit 1 is passed: the input has over 2^32 - 1 bytes, of which one more is read.
     pub(crate) fn too_long() -> Status
         ensures { result ≡ Status.Limit 1 268435457 }
     {

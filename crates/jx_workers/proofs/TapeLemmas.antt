@@ -1,5 +1,5 @@
 -- From the entries of a store to the tape of jobs.
-use Rattle.std.proofs.Common.{◌≡◌, ◌⊎◌, inl, inr, ℕ, zero, suc, ◌+◌, ◌-◌, ◌<◌, ◌≤◌, ◌^◌, true, Option, Some, None, List, [], ◌∷◌, ◌++◌, map, length, take, get_or, refl, sym, ap, subst, ◌∙◌, arith}
+use Rattle.std.proofs.Common.{◌≡◌, ◌⊎◌, inl, inr, ℕ, zero, suc, ◌+◌, ◌-◌, ◌<◌, ◌≤◌, true, Option, Some, None, List, [], ◌∷◌, ◌++◌, map, length, take, get_or, refl, sym, ap, subst, ◌∙◌, arith}
 use Rattle.std.specs.List.{All, Any, slice_get}
 use Rattle.std.specs.Option.{option_map}
 use Rattle.std.proofs.lemmas.List.{length-map, length-take-le, take-map}
@@ -22,6 +22,7 @@ use Rattle.jx_workers.specs.Told.{is_anew}
 use Rattle.jx_workers.specs.Committed.{IsCommitted, IsRightFront}
 use Rattle.jx_workers.specs.Stops.{IsBadBelow}
 use Rattle.jx_workers.proofs.FrontLemmas.{IsNamed, front_answers}
+use Rattle.jx_base.specs.Limits.{most_bytes}
 
 -- an item with two properties
 pub any_all : {X : Type 0} (P Q : X → Type 0) (xs : List X) → All P xs → Any Q xs → (x : X) × P x × Q x
@@ -128,7 +129,7 @@ module _ (first : ℕ) (jobs : List Job) (k n : ℕ) (d : Job) where
   committed_of (Short m) asked low high e is = is ∙ (asked_at first jobs k n d asked low high e).numbered
 
 -- no block of a job has many bytes
-pub few_bytes : (first : ℕ) (jobs : List Job) → AreAsked first jobs → All (λ (j : Job). size_of j ≤ 2 ^ 28) jobs
+pub few_bytes : (first : ℕ) (jobs : List Job) → AreAsked first jobs → All (λ (j : Job). size_of j ≤ most_bytes) jobs
 few_bytes first jobs asked k d lt = (asked k (get_or jobs k d) (slice_get-get_or jobs k d lt)).asked.sound.bytes
 
 pub one_tape : (jobs : List Job) (a b : List (Taped (Named WrittenBlock))) → IsTapeOf jobs a → IsTapeOf jobs b

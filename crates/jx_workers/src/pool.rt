@@ -1,7 +1,8 @@
 //! The call that recodes the blocks of some jobs.
-ghost use Rattle.std.specs.Prelude.{◌≡◌, ◌<◌, ◌≤◌, ◌+◌, ◌^◌, IfOk, length, map};
+ghost use Rattle.std.specs.Prelude.{◌≡◌, ◌<◌, ◌≤◌, ◌+◌, IfOk, length, map};
 ghost use Rattle.std.specs.List.{sum};
 ghost use Rattle.jx_workers.specs.Tapes.{AreAsked, IsTape, size_of};
+ghost use Rattle.jx_base.specs.Limits.{most_blocks, most_bytes};
 
 use crate::recoder::{Recoder, right_front};
 use crate::sizes::sizes_of;
@@ -26,8 +27,8 @@ pub struct Tape<'a> {
 /// Makes of each job's block what the job asks for, by `threads` workers, of which each takes the next job
 /// that none has. Of several blocks between claim and sequence there are at most `window`, and their
 /// pieces have at most `most` bytes; one alone may have more. The gate is told of each block that is coded
-/// anew, before a worker makes it and after that, before it is committed. The numbers of the jobs go from `first` on and end at 2^20; `threads` is
-/// 1 to 64, `window` 1 to 1,024 and `most` 1 to 2^28, and all pieces have at most 2^28 bytes.
+/// anew, before a worker makes it and after that, before it is committed. The numbers of the jobs go from `first` on and end at 2^22; `threads` is
+/// 1 to 64, `window` 1 to 1,024 and `most` 1 to 2^32 - 1, and all pieces have at most 2^32 - 1 bytes.
 ///
 /// The tape says of each job what it asks for, or that it is bad: that it is to be coded anew, and one of
 /// its segmentation symbols is wrong (T.800 D.5). It ends with the first job that is bad: once a worker
@@ -43,10 +44,10 @@ pub fn recode_all<'a, R: Threads + Wait + Sync, G: Gate + Sync>(
     gate: &G,
 ) -> Result<Tape<'a>, NoMemory>
     requires jobs { AreAsked first jobs.now }
-    requires count { first + length jobs.now ≤ 2 ^ 20 }
-    requires sizes { sum (map size_of jobs.now) ≤ 2 ^ 28 }
+    requires count { first + length jobs.now ≤ most_blocks }
+    requires sizes { sum (map size_of jobs.now) ≤ most_bytes }
     requires threads { (0 < threads) × (threads ≤ 64) }
-    requires windows { (0 < window) × (window ≤ 1024) × (0 < most) × (most ≤ 2 ^ 28) }
+    requires windows { (0 < window) × (window ≤ 1024) × (0 < most) × (most ≤ most_bytes) }
     ensures { IfOk result (λ tape. IsTape jobs.now first threads window most tape.entries.items) }
 {
     if jobs.is_empty() {

@@ -1,6 +1,6 @@
 //! Workers over any values: each claims a number, makes its value and commits it, until all are claimed, or
 //! the job of a number below is bad.
-ghost use Rattle.std.specs.Prelude.{◌≡◌, ◌⊎◌, ℕ, Bool, true, List, ◌<◌, ◌≤◌, ◌+◌, ◌-◌, ◌^◌, All, IfOk, Some, length, map, slice_get, vec_len};
+ghost use Rattle.std.specs.Prelude.{◌≡◌, ◌⊎◌, ℕ, Bool, true, List, ◌<◌, ◌≤◌, ◌+◌, ◌-◌, All, IfOk, Some, length, map, slice_get, vec_len};
 ghost use Rattle.std.specs.List.{sum};
 ghost use Rattle.jx_store.specs.declared.event.Taped.{Taped};
 ghost use Rattle.jx_store.specs.declared.work.Named.{Named};
@@ -9,6 +9,7 @@ ghost use Rattle.jx_store.specs.Setup.{Within};
 ghost use Rattle.jx_store.specs.Valid.{IsOf};
 ghost use Rattle.jx_workers.specs.Stops.{IsBadBelow};
 ghost use Rattle.jx_workers.specs.Workers.{IsFree, IsDone};
+ghost use Rattle.jx_base.specs.Limits.{most_blocks, most_bytes};
 
 use jx_base::NoMemory;
 use jx_io::Gate;
@@ -241,10 +242,10 @@ pub(crate) fn tape_of<
 ) -> Result<Vec<Entry<V>>, NoMemory>
     requires bounds { (N.setup ≡ record { first = limits.first; sizes = sizes.now; window = limits.window; most = limits.most }) × (N.workers ≡ limits.threads) × (N.jobs ≡ jobs.now) }
     requires maker { (M.first maker.now ≡ limits.first) × (M.jobs maker.now ≡ jobs.now) }
-    requires count { (0 < length sizes.now) × (limits.first + length sizes.now ≤ 2 ^ 20) × (length jobs.now ≡ length sizes.now) }
-    requires sizes { sum sizes.now ≤ 2 ^ 28 }
+    requires count { (0 < length sizes.now) × (limits.first + length sizes.now ≤ most_blocks) × (length jobs.now ≡ length sizes.now) }
+    requires sizes { sum sizes.now ≤ most_bytes }
     requires window { (0 < limits.window) × (limits.window ≤ 1024) }
-    requires most { (0 < limits.most) × (limits.most ≤ 2 ^ 28) }
+    requires most { (0 < limits.most) × (limits.most ≤ most_bytes) }
     requires threads { (0 < limits.threads) × (limits.threads ≤ 64) }
     ensures order { IfOk result (λ tape. map (λ t. t.number) tape.items ≡ numbers limits.first (length tape.items)) }
     ensures ended { IfOk result (λ tape. (length tape.items ≡ length jobs.now) ⊎ IsBadBelow limits.first jobs.now V.bad (limits.first + length tape.items)) }

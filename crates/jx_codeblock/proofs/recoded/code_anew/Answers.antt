@@ -1,14 +1,15 @@
-use Rattle.std.proofs.Common.{◌∙◌, ◌≤◌, ◌^◌, ap, sym, subst, length, map, List, ℕ}
+use Rattle.std.proofs.Common.{◌∙◌, ◌≤◌, ap, sym, subst, length, map, List, ℕ}
 use Rattle.std.specs.List.{concat}
 use Rattle.jx_codeblock.proofs.LengthLemmas.{anew_few}
 use Rattle.jx_codeblock.proofs.MadeJobs.{anew_made}
 use Rattle.jx_codeblock.proofs.recoded.code_anew.Goals as goal
+use Rattle.jx_base.specs.Limits.{most_bytes}
 
 pub parts_of-requires-clause-few : goal.parts_of-requires-clause-few
 parts_of-requires-clause-few c =
     let b = c.args.job.now.block.now in
     let is = ap (map (λ l. l.items)) c.deref-2.ensures.value ∙ c.in_ok-lists.ensures.lists in
-    subst (λ (ss : List (List ℕ)). length (concat ss) ≤ 2 ^ 28) (sym is) (anew_few b c.args.style c.requires.asked.sound)
+    subst (λ (ss : List (List ℕ)). length (concat ss) ≤ most_bytes) (sym is) (anew_few b c.args.style c.requires.asked.sound)
 
 pub invariant_of-result : goal.invariant_of-result
 invariant_of-result c =

@@ -1,11 +1,12 @@
-use Rattle.std.proofs.Common.{◌∙◌, ◌≤◌, ◌^◌, arith, sym, subst, List, ℕ}
+use Rattle.std.proofs.Common.{◌∙◌, ◌≤◌, arith, sym, subst, List, ℕ}
 use Rattle.jx_base.specs.Pieces.{PieceValue, bytes_in}
 use Rattle.jx_codeblock.specs.Starts.{AreStarts}
 use Rattle.jx_codeblock.proofs.OwnBytes.{kept_by}
 use Rattle.jx_codeblock.proofs.recoded.keep.Goals as goal
+use Rattle.jx_base.specs.Limits.{most_bytes}
 
 pub starts_of-requires : goal.starts_of-requires
-starts_of-requires c = subst (λ (ps : List PieceValue). bytes_in ps ≤ 2 ^ 28) (sym c.as_slice-pieces.ensures) c.requires.asked.sound.bytes
+starts_of-requires c = subst (λ (ps : List PieceValue). bytes_in ps ≤ most_bytes) (sym c.as_slice-pieces.ensures) c.requires.asked.sound.bytes
 
 pub invariant_of-result : goal.invariant_of-result
 invariant_of-result c = record {

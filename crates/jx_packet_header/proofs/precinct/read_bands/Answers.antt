@@ -1,4 +1,4 @@
-use Rattle.std.proofs.Common.{◌≡◌, ◌<◌, ◌≤◌, ◌+◌, ◌^◌, ◌∙◌, sym, ap, subst, length, drop, get_or, ℕ, refl, set, arith}
+use Rattle.std.proofs.Common.{◌≡◌, ◌<◌, ◌≤◌, ◌+◌, ◌∙◌, sym, ap, subst, length, drop, get_or, ℕ, refl, set, arith}
 use Rattle.std.proofs.Common.{length-set}
 use Rattle.jx_tagtree.specs.Header.{to_come}
 use Rattle.jx_packet_header.specs.Packet.{Cells}
@@ -8,6 +8,7 @@ use Rattle.jx_packet_header.specs.Scan.{scan_bands, scan_band}
 use Rattle.jx_packet_header.specs.Said.{BandSaid, Refuses}
 use Rattle.jx_packet_header.proofs.BandLoopLemmas.{band_at, bands_set, blocks_set, bands_step, next_left, bands_said, bands_refuse}
 use Rattle.jx_packet_header.proofs.precinct.read_bands.Goals as goal
+use Rattle.jx_base.specs.Limits.{most_blocks}
 
 pub read_band-requires-clause-band : goal.read_band-requires-clause-band
 read_band-requires-clause-band c =
@@ -32,7 +33,7 @@ loop-at-preserved c =
     let step = bands_step (scan_bands c.args.style.bits c.args.layer 0 c.args.bands.now.items (to_come c.args.bits.now)) c.args.parts.now.items c.loop-at.parts.items c.read_band.new.parts.items said.parts
     c.args.style.bits c.args.layer c.loop-at.base at items y x (to_come c.loop-at.bits) (to_come c.read_band.new.bits) inside c.loop-at.invariant.scanned (scan' ∙ said.is) said.new_is in
     let same' : length y.blocks ≡ length (get_or items at x).blocks = same ∙ ap (λ (z : Cells). length z.blocks) here in
-    let left' : c.loop-at.base + length (get_or items at x).blocks + length (all_blocks (drop (at + 1) (set items at y))) ≤ 2 ^ 20 = next_left items at c.loop-at.base (2 ^ 20) y x inside c.loop-at.invariant.left in
+    let left' : c.loop-at.base + length (get_or items at x).blocks + length (all_blocks (drop (at + 1) (set items at y))) ≤ most_blocks = next_left items at c.loop-at.base (most_blocks) y x inside c.loop-at.invariant.left in
     record {
       scanned = rw count' at step;
       same = c.in-Ok.ensures.frame ∙ c.loop-at.invariant.same;
@@ -74,7 +75,7 @@ read_band-requires-clause-room c =
     let items = c.loop-at.bands.items in
     let x = c.index_mut-band.result.now in
     let inside : c.loop-at.at < length items = omega (arith, c.loop-at.bands.ok.0) in
-    let left = next_left items c.loop-at.at c.loop-at.base (2 ^ 20) x x inside c.loop-at.invariant.left in
+    let left = next_left items c.loop-at.at c.loop-at.base (most_blocks) x x inside c.loop-at.invariant.left in
     omega (arith, left, ap (λ (z : Cells). length z.blocks) c.index_mut-band.ensures.value)
 
 pub returns-clause-kept : goal.returns-clause-kept

@@ -1,4 +1,4 @@
-use Rattle.std.proofs.Common.{◌≡◌, ◌≤◌, ◌+◌, ◌^◌, length, take, drop, []}
+use Rattle.std.proofs.Common.{◌≡◌, ◌≤◌, ◌+◌, length, take, drop, []}
 use Rattle.jx_tagtree.specs.Header.{to_come}
 use Rattle.jx_packet_header.specs.Frame.{frame}
 use Rattle.jx_packet_header.specs.Kept.{AreBands}
@@ -6,6 +6,7 @@ use Rattle.jx_packet_header.specs.Precinct.{all_blocks}
 use Rattle.jx_packet_header.specs.Scan.{scan_bands}
 use Rattle.jx_packet_header.proofs.BandLoopLemmas.{and_done}
 use Rattle.jx_packet_header.proofs.precinct.read_bands.Given as goal
+use Rattle.jx_base.specs.Limits.{most_blocks}
 
 abbrev pub invariant-loop-at : goal.invariant-loop-at
 invariant-loop-at l = record {
@@ -15,5 +16,5 @@ invariant-loop-at l = record {
   are : AreBands l.bands.items;
   long : length l.bands.items ≡ length l.initial.bands.items;
   blocks : length (all_blocks l.bands.items) ≡ length (all_blocks l.initial.bands.items);
-  left : l.base + length (all_blocks (drop l.at l.bands.items)) ≤ 2 ^ 20;
+  left : l.base + length (all_blocks (drop l.at l.bands.items)) ≤ most_blocks;
 }

@@ -1,4 +1,4 @@
-use Rattle.std.proofs.Common.{◌≡◌, ◌<◌, ◌≤◌, ◌+◌, ◌-◌, ◌*◌, ◌^◌, ◌∙◌, List, map, take, drop, get_or, length, sym, ap, subst, arith}
+use Rattle.std.proofs.Common.{◌≡◌, ◌<◌, ◌≤◌, ◌+◌, ◌-◌, ◌*◌, ◌∙◌, List, map, take, drop, get_or, length, sym, ap, subst, arith}
 use Rattle.std.proofs.lemmas.List.{length-map}
 use Rattle.jx_packet_header.specs.declared.BandCells.{BandCells}
 use Rattle.jx_packet_header.specs.Precinct.{cells_in}
@@ -8,6 +8,7 @@ use Rattle.jx_packet_header.specs.LeavesFit.{fresh_writes}
 use Rattle.jx_packet_header.proofs.FreshLemmas.{cells_at, cells_few}
 use Rattle.jx_packet_header.proofs.PlanLemmas.{Making, making_end, making_start, making_next, part_leaves}
 use Rattle.jx_packet_header.proofs.precinct_out.fresh_bands_out.Goals as goal
+use Rattle.jx_base.specs.Limits.{most_blocks}
 
 pub loop-cells-init : goal.loop-cells-init
 loop-cells-init c =
@@ -24,7 +25,7 @@ loop-cells-preserved c =
     let n = b.wide * b.high in
     let inside : c.loop-cells.cells-index < length c.args.bands.now = c.loop-cells-test.true in
     let le : b.wide * b.high ≤ cells_in c.args.bands.now = cells_few c.args.bands.now c.loop-cells.cells-index d inside in
-    let few : b.wide * b.high ≤ 2 ^ 20 = omega (arith, le, c.requires.bands.few) in
+    let few : b.wide * b.high ≤ most_blocks = omega (arith, le, c.requires.bands.few) in
     let some : 0 < b.wide = omega (arith, c.if-cells-eq0.false) in
     let same : c.loop-cells.base + n - c.loop-cells.base ≡ n = omega arith in
     let y_is : c.in_ok-fresh_band.field-0 ≡ fresh_writes c.args.layers b (take n (drop c.loop-cells.base (map leaf_of c.args.leaves.now))) =

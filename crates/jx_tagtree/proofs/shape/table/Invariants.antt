@@ -8,4 +8,4 @@ abbrev pub invariant-loop-levels : goal.invariant-loop-levels
 invariant-loop-levels l = Stacks (levels_of l.fn.wide l.fn.high) l.levels.items l.level
 
 abbrev pub decreases-loop-levels : goal.decreases-loop-levels
-decreases-loop-levels l = 20 - length l.levels.items
+decreases-loop-levels l = 22 - length l.levels.items

@@ -1,4 +1,4 @@
-use Rattle.std.proofs.Common.{◌≤◌, ◌^◌, sym, subst, length, List}
+use Rattle.std.proofs.Common.{◌≤◌, sym, subst, length, List}
 use Rattle.std.specs.List.{All}
 use Rattle.jx_codeblock.specs.declared.LayerPart.{LayerPart}
 use Rattle.jx_codeblock.specs.Laws.{IsWithin}
@@ -7,6 +7,7 @@ use Rattle.jx_base.specs.Pieces.{ArePieces}
 use Rattle.jx_codeblock.specs.Recoding.{recoded_pieces}
 use Rattle.jx_codeblock.proofs.MadeJobs.{job_few, job_within, job_sound}
 use Rattle.jx_codeblock.proofs.recoded.Recoded.parts.Goals as goal
+use Rattle.jx_base.specs.Limits.{most_bytes}
 
 pub returns-clause-within : goal.returns-clause-within
 returns-clause-within c =
@@ -22,5 +23,5 @@ returns-clause-sound c =
 
 pub returns-clause-few : goal.returns-clause-few
 returns-clause-few c =
-    let P : WrittenBlock → Type 0 = λ w. length w.recoding.bytes ≤ 2 ^ 28 in
+    let P : WrittenBlock → Type 0 = λ w. length w.recoding.bytes ≤ most_bytes in
     subst P c.self.view_is (job_few c.self.inside.job.now c.self.inside.made.bytes c.self.inside.made.starts c.self.inside.made.parts c.self.invariant)

@@ -1,4 +1,4 @@
-use Rattle.std.proofs.Common.{◌≡◌, ◌∙◌, ◌<◌, ◌≤◌, ◌^◌, map, ap, subst}
+use Rattle.std.proofs.Common.{◌≡◌, ◌∙◌, ◌<◌, ◌≤◌, map, ap, subst}
 use Rattle.jx_geom.specs.Geometry.{Geometry}
 use Rattle.jx_geom.specs.Leaves.{AreLeaves}
 use Rattle.jx_geom.specs.Precincts.{leaf_number, leaves}
@@ -7,6 +7,7 @@ use Rattle.jx_generate.specs.Making.{Making, count_drawn}
 use Rattle.jx_generate.specs.Values.{drawn_of}
 use Rattle.jx_generate.proofs.PictureLemmas.{leaf_there, leaves_few, precinct_in}
 use Rattle.jx_generate.proofs.picture.Picture.numbers.Goals as goal
+use Rattle.jx_base.specs.Limits.{most_blocks}
 
 pub leaves-requires : goal.leaves-requires
 leaves-requires c =
@@ -21,7 +22,7 @@ returns-clause-numbers c =
 
 pub returns-clause-few : goal.returns-clause-few
 returns-clause-few c =
-    subst (λ (m : Making). leaves (geometry_made m.width m.height) c.args.comp c.args.res 0 ≤ 2 ^ 20) c.self.view_is
+    subst (λ (m : Making). leaves (geometry_made m.width m.height) c.args.comp c.args.res 0 ≤ most_blocks) c.self.view_is
     (leaves_few (record { seed = c.self.inside.seed; width = c.self.inside.width; height = c.self.inside.height }) c.self.inside.geom (map drawn_of c.self.inside.blocks.items) c.args.comp c.args.res
     c.self.invariant c.requires.comp c.requires.res)
 

@@ -1,9 +1,10 @@
 use Rattle.std.proofs.Common.{◌∙◌, ap, sym, subst}
 use Rattle.jx_geom.specs.declared.table.Resolution.{Resolution}
-use Rattle.std.proofs.Common.{◌≤◌, ◌^◌}
+use Rattle.std.proofs.Common.{◌≤◌}
 use Rattle.jx_geom.specs.Geometry.{Geometry, GeometryInRange, rect_of_tile}
 use Rattle.jx_geom.proofs.TableLemmas.{table_is, table_entry, before_few}
 use Rattle.jx_geom.proofs.tile_geom.TileGeom.resolution.Goals as goal
+use Rattle.jx_base.specs.Limits.{most_blocks}
 
 pub entry-requires-clause-place : goal.entry-requires-clause-place
 entry-requires-clause-place c =
@@ -46,5 +47,5 @@ returns-clause-few c =
     let e = (table_entry (rect_of_tile c.args.self.now) c.args.self.now.shapes c.self.inside.table.places.items c.self.inside.table.list.items c.args.comp c.args.res
     is.0 is.1 c.requires.res.component c.requires.res.level c.requires.some).only c.entry.result c.entry.ensures in
     let P : Geometry → Type 0 = λ g. GeometryInRange g in
-    let Q : Resolution → Type 0 = λ r. r.blocks_before ≤ 2 ^ 20 in
+    let Q : Resolution → Type 0 = λ r. r.blocks_before ≤ most_blocks in
     subst Q (sym e) (before_few c.args.self.now c.args.comp c.args.res (subst P c.self.view_is c.self.invariant.0) c.requires.res)

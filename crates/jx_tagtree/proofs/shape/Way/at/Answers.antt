@@ -8,7 +8,7 @@ bounds-levels-place c = at_inside c.self.inside.levels.now c.self.inside.down c.
 pub offset_bounds-levels-place : goal.offset_bounds-levels-place
 offset_bounds-levels-place c =
     let inside : c.args.place < length c.self.inside.levels.now = at_inside c.self.inside.levels.now c.self.inside.down c.self.inside.across c.args.self.now c.self.view_is c.args.place c.requires in
-    let few : length c.self.inside.levels.now ≤ 21 = c.self.invariant.few in
+    let few : length c.self.inside.levels.now ≤ 23 = c.self.invariant.few in
     record { fits = omega arith }
 
 pub halved-requires : goal.halved-requires
