@@ -28,7 +28,7 @@ impl TileGeom {
         requires precinct { HasPrecinct self.now comp res precinct }
         requires band { HasBand res band }
         ensures value { result ≡ leaves_before_band self.now comp res precinct band }
-        ensures bound { result ≤ 2 ^ 21 }
+        ensures bound { result ≤ 2 ^ 23 }
     {
         match band {
             Band::LL | Band::HL => 0,

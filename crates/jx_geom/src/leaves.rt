@@ -87,7 +87,7 @@ fn part_of(
     requires range { GeometryInRange geom.now }
     requires precinct { HasPrecinct geom.now comp res precinct }
     requires band { HasBand res band }
-    requires before { before ≤ 2 ^ 22 }
+    requires before { before ≤ 2 ^ 24 }
     ensures count { result.count ≡ size_of (cells_at geom.now comp res precinct band) }
     ensures each { (j : ℕ) → j < size_of (cells_at geom.now comp res precinct band) → band_leaf_at result j ≡ before + leaf_index geom.now comp res precinct band j }
 {

@@ -44,7 +44,7 @@ impl TileGeom {
         requires res { HasResolution self.now comp res }
         requires band { HasBand res band }
         ensures value { result ≡ blocks_before_band (rect_of_tile self.now) (shape_of self.now comp) res band }
-        ensures bound { result ≤ 2 ^ 21 }
+        ensures bound { result ≤ 2 ^ 23 }
     {
         match band {
             Band::LL | Band::HL => 0,

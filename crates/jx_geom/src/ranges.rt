@@ -8,7 +8,6 @@ ghost use Rattle.jx_geom.specs.Ranges.{CanvasInRange, NumbersInRange, PrecinctsI
 use crate::counts::count_in;
 use crate::rects::tile_of;
 use crate::shape::{Canvas, CompShape};
-use jx_base::MOST_BLOCKS;
 
 impl Canvas {
     /// Whether the canvas is in the ranges of rule 4: the first tile holds a place of the picture, and the
@@ -73,7 +72,7 @@ pub fn is_within_limits(canvas: &Canvas, tile: u16, comps: &[CompShape]) -> bool
         let (own_blocks, own_precincts) = count_in(places, comp);
         blocks += own_blocks;
         precincts += own_precincts;
-        if blocks > u128::from(MOST_BLOCKS) || precincts > 1 << 22 {
+        if blocks > 1 << 22 || precincts > 1 << 22 {
             return false;
         }
     }

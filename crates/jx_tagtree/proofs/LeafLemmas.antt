@@ -80,8 +80,8 @@ passes-leaf wide high l n s lt n_lt =
     sym (ap (passes n) (way_begin wide high l))
     ∙ by (is_root (base wide high)) (passes-above 21 (over (base wide high)) (parent_at (base wide high) l) n (IsLevel-over 21 (base wide high) level) (InLevel-parent 22 (base wide high) l level here) below)
   where
-    by : (b : Bool) → passes n (way_from 19 (over (base wide high)) (parent_at (base wide high) l)) ≡ false →
-        passes n (cond b (l ∷ []) (l ∷ way_from 19 (over (base wide high)) (parent_at (base wide high) l))) ≡ (l == n)
+    by : (b : Bool) → passes n (way_from 21 (over (base wide high)) (parent_at (base wide high) l)) ≡ false →
+        passes n (cond b (l ∷ []) (l ∷ way_from 21 (over (base wide high)) (parent_at (base wide high) l))) ≡ (l == n)
     by true rest = or_false (l == n)
     by false rest = ap (λ (c : Bool). (l == n) || c) rest ∙ or_false (l == n)
 

@@ -139,7 +139,7 @@ pub(crate) fn count_nodes(wide: u32, high: u32) -> usize
         wide,
         high,
     };
-    for _ in 0..20u32 {
+    for _ in 0..22u32 {
         if is_top(level) {
             return level.first as usize + 1;
         }

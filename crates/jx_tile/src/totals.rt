@@ -10,7 +10,7 @@ ghost use Rattle.jx_codestream.specs.InRange.{StreamInRange};
 ghost use Rattle.jx_codestream.specs.Shapes.{shapes_of};
 ghost use Rattle.jx_tile.specs.Totals.{block_total, packet_total, tile_packets, totals_fault};
 
-use jx_base::{MOST_BLOCKS, NoMemory, Rect};
+use jx_base::{NoMemory, Rect};
 use jx_codestream::{MainView, Stream, StreamFault};
 use jx_geom::{CompShape, count_known, has_no_place, is_empty_after, tile_of};
 use std::alloc::Global;
@@ -103,7 +103,7 @@ pub fn check_totals(alloc: Global, stream: &Stream, main: &MainView<'_>) -> Resu
         Ok(totals) => totals,
         Err(_) => return Err(StreamFault::NoMemory),
     };
-    if blocks > u128::from(MOST_BLOCKS) {
+    if blocks > 1 << 22 {
         return Err(StreamFault::Limit {
             number: 5,
             found: blocks,
