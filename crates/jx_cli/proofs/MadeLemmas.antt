@@ -21,7 +21,8 @@ use Rattle.jx_cli.specs.Command.{transcode, with_flag, with_option, with_place}
 use Rattle.jx_options.specs.Names.{form_said, parts_said, reduce_said, rsiz_said}
 use Rattle.jx_options.specs.Values.{ArePrecincts, precincts_in, precincts_said, precincts_text, style_said, style_text, value_in, whole_choices}
 use Rattle.jx_cli.specs.Words.{Asks, Given, MayBeAsked, Request, Text, are_values, given_by, given_in, is_good, request_of, wanted_by, work_by}
-use Rattle.jx_options.specs.Work.{MayBeWork, Work}
+use Rattle.jx_base.specs.Limits.{most_bytes}
+use Rattle.jx_options.specs.Work.{MayBeLimit, MayBeWork, Work}
 use Rattle.jx_options.proofs.ItemLemmas.{two_digits}
 use Rattle.jx_options.proofs.NumberLemmas.{number_spelled}
 use Rattle.jx_options.proofs.OrderWords.{order_back, order_word}
@@ -38,7 +39,7 @@ flag_words false flag words = words
 abbrev made_words : Given → Bool → Bool → Bool → Bool → List Text
 made_words g sop eph plt tlm =
     codes "transcode" ∷ (codes "--order=" ++ g.order) ∷ (codes "--precincts=" ++ g.precincts) ∷ (codes "--layers=" ++ g.layers) ∷ (codes "--style=" ++ g.style) ∷ (codes "--tile-parts=" ++ g.parts)
-    ∷ (codes "--rsiz=" ++ g.rsiz) ∷ (codes "--form=" ++ g.form) ∷ (codes "--reduce=" ++ g.reduce) ∷ (codes "--threads=" ++ g.threads) ∷ (codes "--window=" ++ g.window) ∷ (codes "--window-bytes=" ++ g.window_bytes)
+    ∷ (codes "--rsiz=" ++ g.rsiz) ∷ (codes "--form=" ++ g.form) ∷ (codes "--reduce=" ++ g.reduce) ∷ (codes "--limit-bytes=" ++ g.limit_bytes) ∷ (codes "--threads=" ++ g.threads) ∷ (codes "--window=" ++ g.window) ∷ (codes "--window-bytes=" ++ g.window_bytes)
     ∷ flag_words sop (codes "--sop") (flag_words eph (codes "--eph") (flag_words plt (codes "--plt") (flag_words tlm (codes "--tlm") (codes "--" ∷ g.from ∷ g.to ∷ []))))
 
 abbrev made_given : Given → Bool → Bool → Bool → Bool → Given
@@ -175,6 +176,7 @@ given_for r = record {
   rsiz = rsiz_word r.wanted.rsiz;
   form = form_word r.form;
   reduce = decimal r.reduce;
+  limit_bytes = decimal r.limit;
   threads = decimal r.work.threads;
   window = decimal r.work.window;
   window_bytes = decimal r.work.most;
@@ -192,8 +194,11 @@ threads_back w may = number_spelled 64 w.threads (omega arith) may.some_threads 
 window_back : (w : Work) → MayBeWork w → number_in 1024 (decimal w.window) ≡ Some w.window
 window_back w may = number_spelled 1024 w.window (omega arith) may.some_window may.few_window
 
-most_back : (w : Work) → MayBeWork w → number_in 268435456 (decimal w.most) ≡ Some w.most
-most_back w may = number_spelled 268435456 w.most (omega arith) may.some_most may.few_most
+pub limit_back : (n : ℕ) → MayBeLimit n → number_in most_bytes (decimal n) ≡ Some n
+limit_back n may = number_spelled most_bytes n (omega arith) may.some may.few
+
+most_back : (w : Work) → MayBeWork w → number_in most_bytes (decimal w.most) ≡ Some w.most
+most_back w may = number_spelled most_bytes w.most (omega arith) may.some_most may.few_most
 
 -- 0 is the one number that begins with its digit
 reduce_back : (n : ℕ) → n ≤ 32 → reduce_said (decimal n) ≡ Some n
@@ -216,7 +221,7 @@ reduce_back n few = elim (cases_lt 0 n) [
 values_good : (r : Request) → MayBeAsked r → are_values (given_for r) ≡ true
 unfolding are_values
 values_good r may =
-    rw (order_back r.wanted.order may.order, precincts_back r.wanted.precincts may.precincts, parts_back r.wanted.marks.parts, style_back r.wanted.style may.style, rsiz_back r.wanted.rsiz, form_back r.form, reduce_back r.reduce may.reduce, threads_back r.work may.work, window_back r.work may.work, most_back r.work may.work) refl
+    rw (order_back r.wanted.order may.order, precincts_back r.wanted.precincts may.precincts, parts_back r.wanted.marks.parts, style_back r.wanted.style may.style, rsiz_back r.wanted.rsiz, form_back r.form, reduce_back r.reduce may.reduce, limit_back r.limit may.limit, threads_back r.work may.work, window_back r.work may.work, most_back r.work may.work) refl
 
 values_made : (r : Request) → MayBeAsked r → wanted_by (given_for r) ≡ r.wanted
 unfolding wanted_by
@@ -236,7 +241,7 @@ made_good r may =
 
 made_request : (r : Request) → MayBeAsked r → request_of ([] ∷ words_for r) ≡ r
 unfolding request_of
-made_request r may = rw (found_for r, values_made r may, form_back r.form, reduce_back r.reduce may.reduce, work_made r may) refl
+made_request r may = rw (found_for r, values_made r may, form_back r.form, reduce_back r.reduce may.reduce, limit_back r.limit may.limit, work_made r may) refl
 
 pub has_words : (r : Request) → MayBeAsked r → Asks r
 has_words r may = record { words = [] ∷ words_for r; good = made_good r may; made = made_request r may }

@@ -1,17 +1,22 @@
 -- Words of `show`, and what they ask for.
-use Rattle.std.proofs.Common.{◌≡◌, ◌∙◌, ap, refl, Bool, true, false, List, [], ◌∷◌, Option, codes}
+use Rattle.std.proofs.Common.{◌≡◌, ◌∙◌, ap, refl, sym, Bool, true, false, List, [], ◌∷◌, ◌++◌, Option, codes, drop, eqb, is_some, length}
+use Rattle.std.specs.Fmt.{decimal}
 use Rattle.std.specs.Str.{bytes_eq}
 use Rattle.clap.specs.Words.{App, Rule, fault_of, is_simple_and_free, with_rule}
 use Rattle.clap.proofs.OnLiterals.{clap_on_literals}
-use Rattle.jx_cli.specs.Command.{flag_rule, with_flag, with_place}
+use Rattle.jx_cli.specs.Command.{flag_rule, with_flag, with_option, with_place}
 use Rattle.jx_cli.specs.MakeFound.{texts_of, under}
-use Rattle.jx_cli.specs.ShowWords.{AsksShow, Show, is_show, is_taken, show, show_in, show_of}
-use Rattle.jx_cli.specs.Words.{Text}
-use Rattle.jx_cli.proofs.BoxesLemmas.{no_fault, some_fault}
-use Rattle.jx_cli.proofs.CommandLemmas.{none_moved, some_moved, texts_moved}
+use Rattle.jx_cli.specs.ShowWords.{AsksShow, Show, is_asked, is_show, show, show_by, show_of}
+use Rattle.jx_cli.specs.Words.{Text, limit_in, said_of}
+use Rattle.jx_options.specs.declared.names.OptionName.TheVariants as option
+use Rattle.jx_options.specs.Work.{MayBeLimit}
+use Rattle.jx_cli.proofs.BoxesLemmas.{no_fault}
+use Rattle.jx_cli.proofs.CommandLemmas.{asked_by, none_moved, some_moved, texts_moved, unasked_by}
+use Rattle.jx_cli.proofs.MadeLemmas.{limit_back}
+use Rattle.jx_cli.proofs.WantedLemmas.{limit_within}
 
 pub show_free : is_simple_and_free show ≡ true
-unfolding clap_on_literals show with_flag with_place
+unfolding clap_on_literals show with_flag with_option with_place
 show_free = refl
 
 pub flag_added : (name : Text) (rule : Rule) (app more : App) → more ≡ with_rule app rule → rule ≡ flag_rule name → more ≡ with_flag name app
@@ -19,44 +24,67 @@ unfolding with_flag
 flag_added name rule app more added same = added ∙ ap (with_rule app) same
 
 -- ---- what clap says of the words, by what the command is
-pub taken : (a : App) (words : List Text) → a ≡ show → fault_of a words ≡ [] → is_taken words ≡ true
-taken a words is none = no_fault (fault_of show words) (none_moved a show words is none)
+pub asked : (a : App) (words : List Text) (found : Text → Option Text) (b : Bool) → a ≡ show → fault_of a words ≡ [] → found ≡ texts_of a words → is_some (limit_in found) ≡ b → is_asked words ≡ b
+asked a words found b is none same said =
+    asked_by (fault_of show words) (is_some (limit_in (texts_of show words))) b (none_moved a show words is none)
+    (sym (ap (λ (f : Text → Option Text). is_some (limit_in f)) (same ∙ texts_moved a show words is)) ∙ said)
 
-pub untaken : (a : App) (words : List Text) → a ≡ show → (fault_of a words ≡ [] → ⊥) → is_taken words ≡ false
-untaken a words is some = some_fault (fault_of show words) (some_moved a show words is some)
+pub unasked : (a : App) (words : List Text) → a ≡ show → (fault_of a words ≡ [] → ⊥) → is_asked words ≡ false
+unasked a words is some = unasked_by (fault_of show words) (is_some (limit_in (texts_of show words))) (some_moved a show words is some)
 
-abbrev show_by : (Text → Option Text) → Show
-show_by found = record { name = under found (codes "in"); json = bytes_eq (under found (codes "json")) (codes "true") }
+pub shown : (a : App) (words : List Text) (found : Text → Option Text) (made : Show) → a ≡ show → found ≡ texts_of a words → made ≡ show_by found → made ≡ show_by (texts_of show words)
+shown a words found made is same by = by ∙ ap show_by (same ∙ texts_moved a show words is)
 
-pub asked_by : (a : App) (words : List Text) (found : Text → Option Text) (asked : Show) → a ≡ show → found ≡ texts_of a words → asked ≡ show_by found → asked ≡ show_in words
-asked_by a words found asked is same_texts by = by ∙ ap show_by (same_texts ∙ texts_moved a show words is)
+-- ---- how many bytes they ask for
+pub shown_may_be : (found : Text → Option Text) → MayBeLimit (show_by found).limit
+unfolding show_by
+shown_may_be found = limit_within (said_of found option.LimitBytes)
 
-pub show_is : (a b : Text) (c d : Bool) → a ≡ b → c ≡ d → ◌≡◌ {A = Show} (record { name = a; json = c }) (record { name = b; json = d })
-show_is a b c d e f = rw (e, f) refl
+pub words_may_be : (words : List Text) → MayBeLimit (show_of words).limit
+unfolding show_of
+words_may_be words = shown_may_be (texts_of show (drop 1 words))
 
 -- ---- words that ask for it
-abbrev words_for : Bool → Text → List Text
-words_for true name = codes "show" ∷ codes "--json" ∷ codes "--" ∷ name ∷ []
-words_for false name = codes "show" ∷ codes "--" ∷ name ∷ []
+abbrev words_for : Bool → Text → Text → List Text
+words_for true name limit = codes "show" ∷ codes "--json" ∷ (codes "--limit-bytes=" ++ limit) ∷ codes "--" ∷ name ∷ []
+words_for false name limit = codes "show" ∷ (codes "--limit-bytes=" ++ limit) ∷ codes "--" ∷ name ∷ []
 
-words_taken : (json : Bool) (name : Text) → fault_of show (words_for json name) ≡ []
-unfolding clap_on_literals show with_flag with_place
-words_taken true name = refl
-words_taken false name = refl
+words_taken : (json : Bool) (name limit : Text) → fault_of show (words_for json name limit) ≡ []
+unfolding clap_on_literals show with_flag with_option with_place
+words_taken true name limit = refl
+words_taken false name limit = refl
 
-words_found : (json : Bool) (name : Text) → show_in (words_for json name) ≡ record { name = name; json = json }
-unfolding clap_on_literals show with_flag with_place
-words_found true name = refl
-words_found false name = refl
+name_found : (json : Bool) (name limit : Text) → under (texts_of show (words_for json name limit)) (codes "in") ≡ name
+unfolding clap_on_literals show with_flag with_option with_place
+name_found true name limit = refl
+name_found false name limit = refl
 
-words_good : (json : Bool) (name : Text) → is_show ([] ∷ words_for json name) ≡ true
+json_found : (json : Bool) (name limit : Text) → bytes_eq (under (texts_of show (words_for json name limit)) (codes "json")) (codes "true") ≡ json
+unfolding clap_on_literals show with_flag with_option with_place
+json_found true name limit = refl
+json_found false name limit = refl
+
+limit_found : (json : Bool) (name limit : Text) → said_of (texts_of show (words_for json name limit)) option.LimitBytes ≡ limit
+unfolding clap_on_literals show with_flag with_option with_place
+limit_found true name limit = refl
+limit_found false name limit = refl
+
+words_good : (s : Show) → MayBeLimit s.limit → is_show ([] ∷ words_for s.json s.name (decimal s.limit)) ≡ true
 unfolding is_show
-words_good true name = no_fault (fault_of show (words_for true name)) (words_taken true name)
-words_good false name = no_fault (fault_of show (words_for false name)) (words_taken false name)
+words_good s may = by s.json
+  where
+    by : (json : Bool) → is_show ([] ∷ words_for json s.name (decimal s.limit)) ≡ true
+    by true =
+        let none : eqb (length (fault_of show (words_for true s.name (decimal s.limit)))) 0 ≡ true = no_fault (fault_of show (words_for true s.name (decimal s.limit))) (words_taken true s.name (decimal s.limit)) in
+        rw (none, limit_found true s.name (decimal s.limit), limit_back s.limit may) refl
+    by false =
+        let none : eqb (length (fault_of show (words_for false s.name (decimal s.limit)))) 0 ≡ true = no_fault (fault_of show (words_for false s.name (decimal s.limit))) (words_taken false s.name (decimal s.limit)) in
+        rw (none, limit_found false s.name (decimal s.limit), limit_back s.limit may) refl
 
-words_made : (json : Bool) (name : Text) → show_of ([] ∷ words_for json name) ≡ record { name = name; json = json }
-unfolding show_of
-words_made json name = words_found json name
+words_made : (s : Show) → MayBeLimit s.limit → show_of ([] ∷ words_for s.json s.name (decimal s.limit)) ≡ s
+unfolding show_of show_by
+words_made s may =
+    rw (name_found s.json s.name (decimal s.limit), json_found s.json s.name (decimal s.limit), limit_found s.json s.name (decimal s.limit), limit_back s.limit may) refl
 
-pub has_show_words : (asked : Show) → AsksShow asked
-has_show_words asked = record { words = [] ∷ words_for asked.json asked.name; good = words_good asked.json asked.name; made = words_made asked.json asked.name }
+pub has_show_words : (s : Show) → MayBeLimit s.limit → AsksShow s
+has_show_words s may = record { words = [] ∷ words_for s.json s.name (decimal s.limit); good = words_good s may; made = words_made s may }

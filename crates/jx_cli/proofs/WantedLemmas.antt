@@ -10,7 +10,8 @@ use Rattle.jx_options.specs.Wanted.{MayBeStyle, MayBeWanted}
 use Rattle.jx_options.specs.Names.{order_said, reduce_said}
 use Rattle.jx_options.specs.Values.{ArePrecincts, precincts_in, precincts_said, style_said, value_in, whole_choices}
 use Rattle.jx_cli.specs.Words.{Given, MayBeAsked, given_in, request_by, request_of, wanted_by, work_by}
-use Rattle.jx_options.specs.Work.{MayBeWork}
+use Rattle.jx_base.specs.Limits.{most_bytes}
+use Rattle.jx_options.specs.Work.{MayBeLimit, MayBeWork}
 use Rattle.jx_options.proofs.OrderWords.{order_few}
 use Rattle.jx_options.proofs.SpellLemmas.{precincts_read}
 use Rattle.jx_options.proofs.StyleLemmas.{IsGood, style_good}
@@ -79,7 +80,7 @@ unfolding work_by
 work_may_be g =
     let threads = number_within 64 1 g.threads (omega arith, omega arith) in
     let window = number_within 1024 64 g.window (omega arith, omega arith) in
-    let most = number_within 268435456 268435456 g.window_bytes (omega arith, omega arith) in
+    let most = number_within most_bytes 268435456 g.window_bytes (omega arith, omega arith) in
     record { some_threads = threads.0; few_threads = threads.1; some_window = window.0; few_window = window.1; some_most = most.0; few_most = most.1 }
 
 -- 0, a number that is said, or the default
@@ -93,6 +94,18 @@ reduce_within text = by (bytes_eq text (codes "0")) (number_in 32 text) refl
 
 pub given_reduce_few : (g : Given) → (request_by g).reduce ≤ 32
 given_reduce_few g = reduce_within g.reduce
+
+pub limit_within : (text : List ℕ) → MayBeLimit (unwrap_or (number_in most_bytes text) 268435456)
+limit_within text =
+    let within = number_within most_bytes 268435456 text (omega arith, omega arith) in
+    record { some = within.0; few = within.1 }
+
+pub given_limit : (g : Given) → MayBeLimit (request_by g).limit
+given_limit g = limit_within g.limit_bytes
+
+pub may_be_limit : (words : List (List ℕ)) → MayBeLimit (request_of words).limit
+unfolding request_of
+may_be_limit words = given_limit (given_in (drop 1 words))
 
 pub may_be_reduced : (words : List (List ℕ)) → (request_of words).reduce ≤ 32
 unfolding request_of
@@ -108,7 +121,7 @@ may_be_work words = work_may_be _
 
 request_asked : (g : Given) → MayBeAsked (request_by g)
 unfolding wanted_by
-request_asked g = record { order = order_asked g.order; precincts = precincts_asked g.precincts; style = style_few g.style; reduce = given_reduce_few g; work = work_may_be g }
+request_asked g = record { order = order_asked g.order; precincts = precincts_asked g.precincts; style = style_few g.style; reduce = given_reduce_few g; limit = given_limit g; work = work_may_be g }
 
 pub asked : (words : List (List ℕ)) → MayBeAsked (request_of words)
 unfolding request_of

@@ -1,18 +1,21 @@
 -- What the words of `jx show` ask for: what a file's codestream is, in lines or as a JSON object.
-use Rattle.std.specs.Prelude.{◌≡◌, true, ◌&&◌, Bool, List, [], length, drop, slice_index_or, codes, eqb, unwrap_or}
+use Rattle.std.specs.Prelude.{◌≡◌, ℕ, true, ◌&&◌, Bool, List, [], ◌∷◌, length, drop, slice_index_or, codes, eqb, is_some, Option, unwrap_or}
 use Rattle.std.specs.Str.{bytes_eq}
-use Rattle.clap.specs.Words.{App, fault_of, first_of, matches_of, new_app}
-use Rattle.jx_cli.specs.Command.{with_flag, with_place}
-use Rattle.jx_cli.specs.Words.{Text}
+use Rattle.clap.specs.Words.{App, fault_of, new_app}
+use Rattle.jx_cli.specs.Command.{with_flag, with_options, with_place}
+use Rattle.jx_cli.specs.MakeFound.{texts_of, under}
+use Rattle.jx_cli.specs.Words.{Text, limit_in}
+use Rattle.jx_options.specs.declared.names.OptionName.TheVariants as option
 
--- the name of a file, and whether JSON is said
+-- the name of a file, whether JSON is said, and the most bytes that the file may have
 pub record Show : Type 0 where
   pub name : Text
   pub json : Bool
+  pub limit : ℕ
 
--- the command as clap is told of it: one word that has to be there, and `--json`
+-- the command as clap is told of it: one word that has to be there, `--json`, and one option of `transcode`
 unfoldable pub show : App
-show = with_flag (codes "json") (with_place (codes "in") (new_app (codes "show")))
+show = with_options (option.LimitBytes ∷ []) (with_flag (codes "json") (with_place (codes "in") (new_app (codes "show"))))
 
 abbrev pub names_show : List Text → Bool
 names_show words = bytes_eq (slice_index_or words 1 []) (codes "show")
@@ -21,20 +24,25 @@ names_show words = bytes_eq (slice_index_or words 1 []) (codes "show")
 abbrev pub is_taken : List Text → Bool
 is_taken words = eqb (length (fault_of show words)) 0
 
--- the text that clap finds under a name; of a flag that is among the words it is `true`
-abbrev pub found_under : List Text → Text → Text
-found_under words name = unwrap_or (first_of name (matches_of show words)) []
+-- by the text that clap finds under each name; of a flag that is among the words it is `true`
+unfoldable pub show_by : (Text → Option Text) → Show
+show_by found = record {
+  name = under found (codes "in");
+  json = bytes_eq (under found (codes "json")) (codes "true");
+  limit = unwrap_or (limit_in found) 268435456;
+}
 
-abbrev pub show_in : List Text → Show
-show_in words = record { name = found_under words (codes "in"); json = bytes_eq (found_under words (codes "json")) (codes "true") }
+-- clap takes the words from the command's name on, and they say how many bytes
+abbrev pub is_asked : List Text → Bool
+is_asked words = is_taken words && is_some (limit_in (texts_of show words))
 
--- the words are the program's name, `show`, the name of a file, and `--json` or not
+-- the words are the program's name, `show`, the name of a file, `--json` or not, and perhaps how many bytes the file may have
 unfoldable pub is_show : List Text → Bool
-is_show words = names_show words && is_taken (drop 1 words)
+is_show words = names_show words && is_asked (drop 1 words)
 
 -- what they ask for
 unfoldable pub show_of : List Text → Show
-show_of words = show_in (drop 1 words)
+show_of words = show_by (texts_of show (drop 1 words))
 
 -- good words that ask for this
 pub record AsksShow (asked : Show) : Type 0 where

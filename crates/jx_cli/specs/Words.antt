@@ -4,7 +4,7 @@ use Rattle.std.specs.Str.{bytes_eq}
 use Rattle.clap.specs.Words.{fault_of, first_of, matches_of}
 use Rattle.jx_base.specs.OrderNumbers.{IsOrderNumber}
 use Rattle.jx_options.specs.Wanted.{MayBeStyle, Wanted}
-use Rattle.jx_options.specs.Work.{MayBeWork, Work}
+use Rattle.jx_options.specs.Work.{MayBeLimit, MayBeWork, Work}
 use Rattle.jx_options.specs.declared.FormChoice.{FormChoice}
 use Rattle.jx_options.specs.declared.FormChoice.TheVariants as form
 use Rattle.jx_options.specs.declared.PartChoice.TheVariants as parts
@@ -20,13 +20,14 @@ abbrev pub Text : Type 0
 Text = List ℕ
 
 -- the input's name and the output's, how the codestream is to be written, what is written of a JP2 file, how many of the highest resolutions are
--- left out, and how the work is done
+-- left out, the most bytes that the input may have, and how the work is done
 pub record Request : Type 0 where
   pub from : Text
   pub to : Text
   pub wanted : Wanted
   pub form : FormChoice
   pub reduce : ℕ
+  pub limit : ℕ
   pub work : Work
 
 -- what clap finds in the words from the command's name on, with the values of options that aren't among them
@@ -45,6 +46,7 @@ pub record Given : Type 0 where
   pub rsiz : Text
   pub form : Text
   pub reduce : Text
+  pub limit_bytes : Text
   pub threads : Text
   pub window : Text
   pub window_bytes : Text
@@ -60,6 +62,10 @@ said_of found name = text_of found (name_of name) []
 -- clap gives a flag the text `true` where it is among the words
 abbrev pub flag_of : (Text → Option Text) → OptionName → Bool
 flag_of found name = bytes_eq (said_of found name) (codes "true")
+
+-- the most bytes that an input may have, where its text says a number
+abbrev pub limit_in : (Text → Option Text) → Option ℕ
+limit_in found = bytes_said (said_of found option.LimitBytes)
 
 -- clap refuses words without `in` and `out`
 unfoldable pub given_by : (Text → Option Text) → Given
@@ -78,6 +84,7 @@ given_by found = record {
   rsiz = said_of found option.Rsiz;
   form = said_of found option.Form;
   reduce = said_of found option.Reduce;
+  limit_bytes = said_of found option.LimitBytes;
   threads = said_of found option.Threads;
   window = said_of found option.Window;
   window_bytes = said_of found option.WindowBytes;
@@ -96,7 +103,7 @@ is_work g = is_some (threads_said g.threads) && (is_some (window_said g.window) 
 
 -- each value is one of its option's
 unfoldable pub are_values : Given → Bool
-are_values g = is_some (order_said g.order) && (is_some (precincts_said g.precincts) && (is_some (parts_said g.parts) && (is_some (style_said g.style) && (is_some (rsiz_said g.rsiz) && (is_some (form_said g.form) && (is_some (reduce_said g.reduce) && is_work g))))))
+are_values g = is_some (order_said g.order) && (is_some (precincts_said g.precincts) && (is_some (parts_said g.parts) && (is_some (style_said g.style) && (is_some (rsiz_said g.rsiz) && (is_some (form_said g.form) && (is_some (reduce_said g.reduce) && (is_some (bytes_said g.limit_bytes) && is_work g)))))))
 
 unfoldable pub wanted_by : Given → Wanted
 wanted_by g = record {
@@ -116,7 +123,7 @@ work_by g = record {
 }
 
 abbrev pub request_by : Given → Request
-request_by g = record { from = g.from; to = g.to; wanted = wanted_by g; form = unwrap_or (form_said g.form) form.Keep; reduce = unwrap_or (reduce_said g.reduce) 0; work = work_by g }
+request_by g = record { from = g.from; to = g.to; wanted = wanted_by g; form = unwrap_or (form_said g.form) form.Keep; reduce = unwrap_or (reduce_said g.reduce) 0; limit = unwrap_or (bytes_said g.limit_bytes) 268435456; work = work_by g }
 
 abbrev pub names_command : List Text → Bool
 names_command words = bytes_eq (slice_index_or words 1 []) (codes "transcode")
@@ -134,12 +141,13 @@ unfoldable pub request_of : List Text → Request
 request_of words = request_by (given_in (drop 1 words))
 
 -- a request that words can make: by one of the five orders, with the precincts of 1 to 33 resolutions and a style of five bits, without 0 to 32
--- resolutions; the words for the planners of layers are any text
+-- resolutions, of an input of 1 to 2^32 - 1 bytes; the words for the planners of layers are any text
 pub record MayBeAsked (r : Request) : Type 0 where
   pub order : IfSome r.wanted.order IsOrderNumber
   pub precincts : IfSome r.wanted.precincts (λ bytes. (bytes ≡ []) ⊎ ArePrecincts bytes)
   pub style : IfSome r.wanted.style MayBeStyle
   pub reduce : r.reduce ≤ 32
+  pub limit : MayBeLimit r.limit
   pub work : MayBeWork r.work
 
 -- good words that make a request

@@ -109,28 +109,34 @@ pub(crate) fn make<'a>(alloc: Global) -> Result<Command<'a>, AllocError>
     with_words(alloc, command, &["seed", "width", "height"])
 }
 
-/// The command `boxes`, of one word.
+/// The command `boxes`, of one word and an option.
 pub(crate) fn boxes<'a>(alloc: Global) -> Result<Command<'a>, AllocError>
     ensures { IfOk result (λ c. app_of c ≡ boxes) }
 {
     let command = Command::new(alloc, "boxes");
-    with_words(alloc, command, &["in"])
+    let command = with_words(alloc, command, &["in"])?;
+    with_options(alloc, command, &[OptionName::LimitBytes])
 }
 
-/// The command `same`, of two words and an option.
+/// The command `same`, of two words and two options.
 pub(crate) fn same<'a>(alloc: Global) -> Result<Command<'a>, AllocError>
     ensures { IfOk result (λ c. app_of c ≡ same) }
 {
     let command = Command::new(alloc, "same");
     let command = with_words(alloc, command, &["a", "b"])?;
-    with_options(alloc, command, &[OptionName::Threads])
+    with_options(
+        alloc,
+        command,
+        &[OptionName::Threads, OptionName::LimitBytes],
+    )
 }
 
-/// The command `show`, of one word, and whether JSON is said.
+/// The command `show`, of one word, whether JSON is said, and an option.
 pub(crate) fn show<'a>(alloc: Global) -> Result<Command<'a>, AllocError>
     ensures { IfOk result (λ c. app_of c ≡ show) }
 {
     let command = Command::new(alloc, "show");
     let command = with_words(alloc, command, &["in"])?;
-    command.arg(arg_of(alloc, true, "json", ""))
+    let command = command.arg(arg_of(alloc, true, "json", ""))?;
+    with_options(alloc, command, &[OptionName::LimitBytes])
 }

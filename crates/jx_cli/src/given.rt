@@ -4,12 +4,12 @@ ghost use Rattle.std.specs.Prelude.{◌≡◌, ◌≢◌, [], IfOk, Err, codes, 
 ghost use Rattle.std.specs.Str.{bytes_eq};
 ghost use Rattle.clap.specs.Words.{app_of, fault_of, first_value, found_of, is_simple_and_free};
 ghost use Rattle.jx_cli.specs.MakeFound.{texts_of};
-ghost use Rattle.jx_cli.specs.Words.{flag_of, said_of, text_of};
+ghost use Rattle.jx_cli.specs.Words.{flag_of, limit_in, said_of, text_of};
 
 use crate::WordsFault;
 use clap::error::ErrorKind;
 use clap::{ArgMatches, Command};
-use jx_options::OptionName;
+use jx_options::{OptionName, bytes_said};
 
 /// The text that was found under a name, else a default.
 pub(crate) fn text_of<'a>(matches: &ArgMatches<'a>, name: &str, default: &'a str) -> &'a str
@@ -33,6 +33,13 @@ pub(crate) fn flag_of(matches: &ArgMatches<'_>, option: OptionName) -> bool
     ensures { result ≡ flag_of (first_value (found_of matches.now)) option }
 {
     said_of(matches, option) == "true"
+}
+
+/// The most bytes that an input may have; none where the text is no such number.
+pub(crate) fn limit_in(matches: &ArgMatches<'_>) -> Option<u32>
+    ensures { result ≡ limit_in (first_value (found_of matches.now)) }
+{
+    bytes_said(said_of(matches, OptionName::LimitBytes))
 }
 
 /// What clap finds in words for a command, of which the first is its name.

@@ -12,7 +12,7 @@ mod reading;
 mod same;
 mod show;
 
-pub use boxes::read_boxes;
+pub use boxes::{Boxes, read_boxes};
 use jx_options::{FormChoice, Options, Work};
 pub use make::{Make, read_make};
 pub use reading::read_words;
@@ -33,6 +33,8 @@ pub struct Request {
     pub form: FormChoice,
     /// How many of the highest resolutions are left out, 0 to 32.
     pub reduce: u8,
+    /// The most bytes that the input may have, 1 to 2^32 - 1.
+    pub limit: u32,
     /// How the work is done.
     pub work: Work,
 }
@@ -43,7 +45,7 @@ impl Model for Request {
 
     ghost Value = { Request };
 
-    ghost view = { λ r. record { from = string_bytes r.from; to = string_bytes r.to; wanted = r.options; form = r.form; reduce = r.reduce; work = r.work } };
+    ghost view = { λ r. record { from = string_bytes r.from; to = string_bytes r.to; wanted = r.options; form = r.form; reduce = r.reduce; limit = r.limit; work = r.work } };
 }
 
 impl Request {
@@ -80,6 +82,13 @@ impl Request {
         ensures { result ≡ self.now.reduce }
     {
         self.reduce
+    }
+
+    /// The most bytes that the input may have, 1 to 2^32 - 1.
+    pub fn limit(&self) -> u32
+        ensures { result ≡ self.now.limit }
+    {
+        self.limit
     }
 
     /// How the work is done.

@@ -6,7 +6,7 @@ ghost use Rattle.jx_cli.specs.Command.{transcode};
 ghost use Rattle.jx_options.specs.Choices.{bytes_in, order_in};
 ghost use Rattle.jx_options.specs.Wanted.{MayBeWanted};
 ghost use Rattle.jx_cli.specs.Words.{are_values, given_by, given_in, is_good, is_work, names_command, request_by, request_of, work_by};
-ghost use Rattle.jx_options.specs.Work.{MayBeWork};
+ghost use Rattle.jx_options.specs.Work.{MayBeLimit, MayBeWork};
 
 use crate::command::transcode;
 use crate::given::{flag_of, matches_in, said_of, text_of};
@@ -38,6 +38,7 @@ struct Given<'a> {
     rsiz: &'a str,
     form: &'a str,
     reduce: &'a str,
+    limit_bytes: &'a str,
     threads: &'a str,
     window: &'a str,
     window_bytes: &'a str,
@@ -63,6 +64,7 @@ impl<'a> Model for Given<'a> {
       rsiz = g.rsiz.now;
       form = g.form.now;
       reduce = g.reduce.now;
+      limit_bytes = g.limit_bytes.now;
       threads = g.threads.now;
       window = g.window.now;
       window_bytes = g.window_bytes.now;
@@ -89,6 +91,7 @@ fn given_by<'a>(matches: &ArgMatches<'a>) -> Given<'a>
         rsiz: said_of(matches, OptionName::Rsiz),
         form: said_of(matches, OptionName::Form),
         reduce: said_of(matches, OptionName::Reduce),
+        limit_bytes: said_of(matches, OptionName::LimitBytes),
         threads: said_of(matches, OptionName::Threads),
         window: said_of(matches, OptionName::Window),
         window_bytes: said_of(matches, OptionName::WindowBytes),
@@ -138,6 +141,7 @@ fn made(
     rsiz: RsizChoice,
     form: FormChoice,
     reduce: u8,
+    limit: u32,
     work: Work,
 ) -> Result<Request, NoMemory>
     ensures { IfOk result (λ r. r ≡ record {
@@ -153,6 +157,7 @@ fn made(
       };
       form = form;
       reduce = reduce;
+      limit = limit;
       work = work;
     }) }
 {
@@ -175,6 +180,7 @@ fn made(
         },
         form,
         reduce,
+        limit,
         work,
     })
 }
@@ -204,6 +210,9 @@ fn request_by(alloc: Global, given: &Given<'_>) -> Result<Request, WordsFault>
     let Some(reduce) = reduce_said(given.reduce) else {
         return Err(WordsFault::Words);
     };
+    let Some(limit) = bytes_said(given.limit_bytes) else {
+        return Err(WordsFault::Words);
+    };
     let Some(work) = work_by(given) else {
         return Err(WordsFault::Words);
     };
@@ -213,7 +222,7 @@ fn request_by(alloc: Global, given: &Given<'_>) -> Result<Request, WordsFault>
         Err(NoMemory) => return Err(WordsFault::NoMemory),
     };
     match made(
-        alloc, given, order, precincts, parts, style, rsiz, form, reduce, work,
+        alloc, given, order, precincts, parts, style, rsiz, form, reduce, limit, work,
     ) {
         Ok(request) => Ok(request),
         Err(NoMemory) => Err(WordsFault::NoMemory),
@@ -245,6 +254,7 @@ pub fn read_words(alloc: Global, words: &[String]) -> Result<Request, WordsFault
     ensures wanted { IfOk result (λ r. MayBeWanted r.wanted) }
     ensures work { IfOk result (λ r. MayBeWork r.work) }
     ensures reduce { IfOk result (λ r. r.reduce ≤ 32) }
+    ensures limit { IfOk result (λ r. MayBeLimit r.limit) }
     ensures words { result ≡ Err WordsFault.Words → is_good (map string_bytes words.now) ≡ false }
 {
     if !names_command(words) {

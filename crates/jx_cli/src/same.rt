@@ -1,19 +1,19 @@
 //! What the words of `same` ask for.
 
-ghost use Rattle.std.specs.Prelude.{◌≡◌, ◌≤◌, true, false, IfErr, IfOk, Err, is_some, length, map, string_bytes};
+ghost use Rattle.std.specs.Prelude.{◌≡◌, ◌≤◌, true, false, IfErr, IfOk, Err, length, map, string_bytes};
 ghost use Rattle.clap.specs.Words.{first_value, found_of};
 ghost use Rattle.jx_cli.specs.MakeFound.{texts_of};
-ghost use Rattle.jx_cli.specs.SameWords.{MayBeCompared, is_asked, is_same, names_same, pair_by, same, same_of, threads_in};
+ghost use Rattle.jx_cli.specs.SameWords.{MayBeCompared, are_numbers, is_asked, is_same, names_same, pair_by, same, same_of};
 
 use crate::WordsFault;
 use crate::command::same;
-use crate::given::{matches_in, said_of, text_of};
+use crate::given::{limit_in, matches_in, said_of, text_of};
 use clap::ArgMatches;
 use jx_options::{OptionName, threads_said};
 use std::alloc::Global;
 use std::marker::Model;
 
-/// The names of two files, of which the second is compared with the first, and by how many threads.
+/// The names of two files, of which the second is compared with the first, by how many threads, and how many bytes each may have.
 #[derive(Drop)]
 pub struct Pair {
     /// The name of the first.
@@ -22,6 +22,8 @@ pub struct Pair {
     pub second: String,
     /// How many threads compare code-blocks, 1 to 64.
     pub threads: u32,
+    /// The most bytes that each file may have, 1 to 2^32 - 1.
+    pub limit: u32,
 }
 
 impl Model for Pair {
@@ -30,7 +32,7 @@ impl Model for Pair {
 
     ghost Value = { Pair };
 
-    ghost view = { λ p. record { first = string_bytes p.first; second = string_bytes p.second; threads = p.threads } };
+    ghost view = { λ p. record { first = string_bytes p.first; second = string_bytes p.second; threads = p.threads; limit = p.limit } };
 }
 
 impl Pair {
@@ -54,11 +56,24 @@ impl Pair {
     {
         self.threads
     }
+
+    /// The most bytes that each file may have, 1 to 2^32 - 1.
+    pub fn limit(&self) -> u32
+        ensures { result ≡ self.now.limit }
+    {
+        self.limit
+    }
 }
 
 /// Names that are kept.
-fn pair_of(alloc: Global, first: &str, second: &str, threads: u32) -> Result<Pair, WordsFault>
-    ensures value { IfOk result (λ pair. pair ≡ record { first = first.now; second = second.now; threads = threads }) }
+fn pair_of(
+    alloc: Global,
+    first: &str,
+    second: &str,
+    threads: u32,
+    limit: u32,
+) -> Result<Pair, WordsFault>
+    ensures value { IfOk result (λ pair. pair ≡ record { first = first.now; second = second.now; threads = threads; limit = limit }) }
     ensures memory { IfErr result (λ fault. fault ≡ WordsFault.NoMemory) }
 {
     let Ok(first) = String::from_str(alloc, first) else {
@@ -71,21 +86,25 @@ fn pair_of(alloc: Global, first: &str, second: &str, threads: u32) -> Result<Pai
         first,
         second,
         threads,
+        limit,
     })
 }
 
-/// The names and the number that were found.
+/// The names and the numbers that were found.
 #[tactic(auto, unfolding(crate::specs::SameWords::pair_by))]
 fn pair_by(alloc: Global, matches: &ArgMatches<'_>) -> Result<Pair, WordsFault>
-    ensures good { IfOk result (λ _. is_some (threads_in (first_value (found_of matches.now))) ≡ true) }
+    ensures good { IfOk result (λ _. are_numbers (first_value (found_of matches.now)) ≡ true) }
     ensures value { IfOk result (λ pair. pair ≡ pair_by (first_value (found_of matches.now))) }
-    ensures words { result ≡ Err WordsFault.Words → is_some (threads_in (first_value (found_of matches.now))) ≡ false }
+    ensures words { result ≡ Err WordsFault.Words → are_numbers (first_value (found_of matches.now)) ≡ false }
 {
     let Some(threads) = threads_said(said_of(matches, OptionName::Threads)) else {
         return Err(WordsFault::Words);
     };
+    let Some(limit) = limit_in(matches) else {
+        return Err(WordsFault::Words);
+    };
     let first = text_of(matches, "a", "");
-    pair_of(alloc, first, text_of(matches, "b", ""), threads)
+    pair_of(alloc, first, text_of(matches, "b", ""), threads, limit)
 }
 
 /// What words ask for, of which the first is the command's name.
@@ -115,10 +134,11 @@ fn names_same(words: &[String]) -> bool
     words[1].as_str() == "same"
 }
 
-/// Reads the words of the command line, the program's name among them: the names of the files that are compared, and by how many threads.
+/// Reads the words of the command line, the program's name among them: the names of the files that are compared, by how many threads, and
+/// how many bytes each may have.
 ///
-/// They name the command `same`, and clap reads the words behind it: two names, and `--threads` with 1 to 64, which is 1 where it isn't
-/// there.
+/// They name the command `same`, and clap reads the words behind it: two names, `--threads` with 1 to 64, which is 1 where it isn't there,
+/// and `--limit-bytes` with 1 to 2^32 - 1, which is 2^28 where it isn't there.
 ///
 /// # Errors
 /// `Words` where they aren't good words, `NoMemory` where there was no memory.

@@ -1,12 +1,13 @@
 //! Whether a file is JP2, and its codestream (ITU-T T.800, I.5.1 and I.5.4).
 
 ghost use Rattle.std.specs.Prelude.{◌≡◌, ◌↔◌, ℕ, ◌≤◌, length, IsTrue, IfOk, IfErr, Ok, Err};
+ghost use Rattle.jx_base.specs.Limits.{most_bytes};
 ghost use Rattle.jx_jp2.specs.declared.Boxed.{Boxed};
 ghost use Rattle.jx_jp2.specs.Codestream.{IsJp2, IsCodestream, IsFault, IsNextFault};
 
 use crate::heads::{read_box, tbox};
 use crate::kinds::JP2C;
-use crate::{BoxFault, Boxed, MOST_BYTES};
+use crate::{BoxFault, Boxed};
 
 const SIGNATURE: [u8; 12] = [0, 0, 0, 12, 0x6A, 0x50, 0x20, 0x20, 0x0D, 0x0A, 0x87, 0x0A];
 
@@ -18,7 +19,7 @@ pub fn is_jp2(bytes: &[u8]) -> bool
 }
 
 fn next_codestream(bytes: &[u8]) -> Result<Boxed, BoxFault>
-    requires { length bytes.now ≤ MOST_BYTES }
+    requires { length bytes.now ≤ most_bytes }
     ensures found { IfOk result (λ boxed. IsCodestream bytes.now boxed) }
     ensures fault { IfErr result (λ wrong. IsFault bytes.now wrong) }
 {
@@ -42,7 +43,7 @@ fn next_codestream(bytes: &[u8]) -> Result<Boxed, BoxFault>
 /// `Rule` comes exactly where no codestream stands before the first box that breaks a rule: rule 32, 33 or 34 at the box, 35 at the
 /// file's length where all boxes are sound and none is of the type.
 pub fn find(bytes: &[u8]) -> Result<Boxed, BoxFault>
-    requires { length bytes.now ≤ MOST_BYTES }
+    requires { length bytes.now ≤ most_bytes }
     ensures found { IfOk result (λ boxed. IsCodestream bytes.now boxed) }
     ensures fault { IfErr result (λ wrong. IsFault bytes.now wrong) }
     ensures one { (boxed : Boxed) → IsCodestream bytes.now boxed → result ≡ Ok boxed }

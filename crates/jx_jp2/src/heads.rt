@@ -1,10 +1,11 @@
 //! The box at a place, or the first of the rules 32 to 34 that it breaks (ITU-T T.800, I.4).
 
 ghost use Rattle.std.specs.Prelude.{◌≡◌, ◌+◌, ◌-◌, ◌≤◌, length, false, None, Some, OnOk, IfOk, IfErr};
+ghost use Rattle.jx_base.specs.Limits.{most_bytes};
 ghost use Rattle.jx_jp2.specs.Heads.{lbox, tbox, xlbox, form_of, head_size, length_at, boxed_at, breaks_32, breaks_33, breaks_34, first_broken, IsBroken};
 
 use crate::numbers::{u32_at, u64_at};
-use crate::{BoxFault, Boxed, HeadForm, MOST_BYTES};
+use crate::{BoxFault, Boxed, HeadForm};
 
 #[tactic(auto, unfolding(crate::specs::Heads::lbox))]
 fn lbox(bytes: &[u8], at: usize) -> u32
@@ -116,7 +117,7 @@ fn first_broken(bytes: &[u8], is_top: bool, stop: usize, at: usize) -> Option<u8
 
 // The box at a place where no rule is broken.
 fn boxed_at(bytes: &[u8], is_top: bool, stop: usize, at: usize) -> Boxed
-    requires small { length bytes.now ≤ MOST_BYTES }
+    requires small { length bytes.now ≤ most_bytes }
     requires place { at ≤ stop }
     requires within { stop ≤ length bytes.now }
     requires sound { first_broken bytes.now is_top stop at ≡ None }
@@ -133,7 +134,7 @@ fn boxed_at(bytes: &[u8], is_top: bool, stop: usize, at: usize) -> Boxed
 
 /// The box at a place of a level that ends at `stop`, or the first of the rules 32 to 34 that it breaks.
 pub fn read_box(bytes: &[u8], is_top: bool, stop: usize, at: usize) -> Result<Boxed, BoxFault>
-    requires small { length bytes.now ≤ MOST_BYTES }
+    requires small { length bytes.now ≤ most_bytes }
     requires place { at ≤ stop }
     requires within { stop ≤ length bytes.now }
     ensures sound { OnOk result (first_broken bytes.now is_top stop at ≡ None) }

@@ -1,5 +1,5 @@
 //! The boxes of a JP2 file (ITU-T T.800, Annex I): the codestream among them, the file with another codestream in its place, and a
-//! list of all, and names. Limit: 2^28 bytes.
+//! list of all, and names. Limit: 2^32 - 1 bytes.
 #![tactic(auto)]
 
 mod faults;
@@ -21,9 +21,6 @@ pub use listing::list;
 pub use naming::names;
 pub use positions::holds_positions;
 pub use wrapping::{Head, around, head_for, wrap};
-
-/// The most bytes that a file may have: 2^28.
-pub const MOST_BYTES: usize = 1 << 28;
 
 /// How a box's head tells where the box ends (T.800, I.4).
 #[derive(Clone, Copy, Debug, PartialEq, Eq)]

@@ -1,13 +1,14 @@
 //! A list of a file's boxes in order of place (ITU-T T.800, I.4).
 
 ghost use Rattle.std.specs.Prelude.{◌≡◌, ◌+◌, ◌≤◌, length, string_bytes, OnOk, IfOk, IfErr};
+ghost use Rattle.jx_base.specs.Limits.{most_bytes};
 ghost use Rattle.jx_jp2.specs.Lines.{HasLines, AddsLines};
 ghost use Rattle.jx_jp2.specs.Trees.{below, IsLevelFault, IsTreeFault};
 
+use crate::BoxFault;
 use crate::heads::{read_box, tbox};
 use crate::levels::{Level, is_top, opened};
 use crate::lines::push_line;
-use crate::{BoxFault, MOST_BYTES};
 use std::alloc::Global;
 
 // Appends the lines of a level's boxes from a place on, and of what is in them. After an `Err` the text may have a part of them.
@@ -19,7 +20,7 @@ fn list_level(
     stop: usize,
     text: &mut String,
 ) -> Result<(), BoxFault>
-    requires small { length bytes.now ≤ MOST_BYTES }
+    requires small { length bytes.now ≤ most_bytes }
     requires span { from ≤ stop }
     requires within { stop ≤ length bytes.now }
     requires deep { depth + below level ≤ 2 }
@@ -46,7 +47,7 @@ fn list_level(
 ///
 /// `Rule` names the first box in order of place that breaks rule 32, 33 or 34. It never names 35, and `jp2c` ends nothing.
 pub fn list(alloc: Global, bytes: &[u8]) -> Result<String, BoxFault>
-    requires { length bytes.now ≤ MOST_BYTES }
+    requires { length bytes.now ≤ most_bytes }
     ensures lines { IfOk result (λ text. HasLines bytes.now (string_bytes text)) }
     ensures fault { IfErr result (λ wrong. IsTreeFault bytes.now wrong) }
 {

@@ -2,9 +2,9 @@
 
 ghost use Rattle.std.specs.Prelude.{◌≡◌, ◌≤◌, ◌++◌, length, string_bytes, OnOk, IfOk};
 ghost use Rattle.std.specs.List.{flat_map, list_all};
+ghost use Rattle.jx_base.specs.Limits.{most_bytes};
 ghost use Rattle.jx_jp2.specs.Names.{AreKinds, HasNames, is_plain, name_text, names_text, next_name, quoted};
 
-use crate::MOST_BYTES;
 use crate::heads::{read_box, tbox};
 use crate::lines::{is_text, push_digits, push_shown};
 use byteorder::{BigEndian, ByteOrder};
@@ -75,7 +75,7 @@ fn names_text(alloc: Global, kinds: &[u32]) -> Result<String, AllocError>
 
 // The types of the boxes on the top level, up to the first that breaks rule 32, 33 or 34, or to the file's end.
 fn kinds_of(alloc: Global, bytes: &[u8]) -> Result<Vec<u32>, AllocError>
-    requires { length bytes.now ≤ MOST_BYTES }
+    requires { length bytes.now ≤ most_bytes }
     ensures { IfOk result (λ kinds. AreKinds bytes.now kinds.items) }
 {
     let mut kinds = Vec::new(alloc);
@@ -98,7 +98,7 @@ fn kinds_of(alloc: Global, bytes: &[u8]) -> Result<Vec<u32>, AllocError>
 ///
 /// There was no memory.
 pub fn names(alloc: Global, bytes: &[u8]) -> Result<String, AllocError>
-    requires { length bytes.now ≤ MOST_BYTES }
+    requires { length bytes.now ≤ most_bytes }
     ensures { IfOk result (λ text. HasNames bytes.now (string_bytes text)) }
 {
     let kinds = kinds_of(alloc, bytes)?;

@@ -1,9 +1,9 @@
 //! Whether a file has a box that holds positions in the file, which may be wrong once its codestream has another length.
 
 ghost use Rattle.std.specs.Prelude.{◌≡◌, ◌↔◌, ◌≤◌, length, IsTrue};
+ghost use Rattle.jx_base.specs.Limits.{most_bytes};
 ghost use Rattle.jx_jp2.specs.Positions.{has_positions, HoldsPositions};
 
-use crate::MOST_BYTES;
 use crate::heads::{read_box, tbox};
 use crate::kinds::{CIDX, FIDX, FTBL, IPTR};
 
@@ -17,7 +17,7 @@ fn has_positions(kind: u32) -> bool
 /// or `iptr` (ITU-T T.808, Annex I). Boxes are read in order, up to the first that breaks rule 32, 33 or 34, or to the file's end. It
 /// takes no memory.
 pub fn holds_positions(bytes: &[u8]) -> bool
-    requires { length bytes.now ≤ MOST_BYTES }
+    requires { length bytes.now ≤ most_bytes }
     ensures { IsTrue result ↔ HoldsPositions bytes.now }
 {
     let mut at = 0;

@@ -2,7 +2,8 @@
 
 use crate::checks::{check, equal_at};
 use crate::files::{CONTENT, HEADER, LONG, REST, SHORT, START, file_of};
-use jx_jp2::{BoxFault, Boxed, HeadForm, MOST_BYTES, find, is_jp2};
+use jx_base::MOST_BYTES;
+use jx_jp2::{BoxFault, Boxed, HeadForm, find, is_jp2};
 use std::alloc::{AllocError, Global};
 use std::process::Abort;
 use std::test::Fail;

@@ -2,7 +2,8 @@
 
 use crate::checks::{check, equal_at};
 use crate::files::{CONTENT, HEADER, REST, SHORT, START, file_of};
-use jx_jp2::{BoxFault, MOST_BYTES, list};
+use jx_base::MOST_BYTES;
+use jx_jp2::{BoxFault, list};
 use std::alloc::{AllocError, Global};
 use std::process::Abort;
 use std::test::Fail;

@@ -2,7 +2,8 @@
 
 use crate::checks::{check, equal_at};
 use crate::files::{CONTENT, HEADER, LONG, REST, SHORT, START, file_of};
-use jx_jp2::{Boxed, HeadForm, MOST_BYTES, around, find, head_for};
+use jx_base::MOST_BYTES;
+use jx_jp2::{Boxed, HeadForm, around, find, head_for};
 use std::alloc::{AllocError, Global};
 use std::process::Abort;
 use std::test::Fail;

@@ -2,8 +2,8 @@
 
 use crate::checks::check;
 use crate::files::{CONTENT, HEADER, LONG, REST, SHORT, START, file_of};
-use jx_base::NoMemory;
-use jx_jp2::{MOST_BYTES, find, wrap};
+use jx_base::{MOST_BYTES, NoMemory};
+use jx_jp2::{find, wrap};
 use std::alloc::{AllocError, Global};
 use std::process::Abort;
 use std::test::Fail;

@@ -35,7 +35,7 @@ limit_filled row number found input =
 
 -- the limit that an input passes
 abbrev pub limit_sentence : ℕ → ℕ → Text → Text
-limit_sentence number found input = limit_filled (limit_words number) number found input
+limit_sentence number found input = limit_filled (limit_words number found) number found input
 
 -- a choice that can't be had, with the value of the option that it is about
 abbrev pub choice_sentence : ℕ → ℕ → List Text → Text

@@ -99,9 +99,9 @@ Example:
 static USAGE: &str = "\
 Usage: jx transcode IN OUT [OPTIONS]
        jx make SEED WIDTH HEIGHT
-       jx boxes IN
-       jx same A B [--threads N]
-       jx show IN [--json]
+       jx boxes IN [--limit-bytes N]
+       jx same A B [--threads N] [--limit-bytes N]
+       jx show IN [--json] [--limit-bytes N]
 
 jx --help says what they do, jx transcode --help all options.";
 
@@ -155,6 +155,17 @@ fn with_options<'a>(alloc: Global, command: Command<'a>) -> Result<Command<'a>, 
     Ok(command)
 }
 
+/// With the most bytes that a file may have, in a command other than `transcode`.
+fn with_limit<'a>(alloc: Global, command: Command<'a>) -> Result<Command<'a>, AllocError> {
+    let text = option_text(OptionName::LimitBytes);
+    let limit = Arg::new(alloc, text.name)
+        .long(text.name)
+        .help(text.help)
+        .value_name(text.value)
+        .action(ArgAction::Set);
+    command.arg(limit)
+}
+
 /// The command `transcode`, with its help.
 fn transcode<'a>(alloc: Global) -> Result<Command<'a>, AllocError> {
     let command = Command::new(alloc, "transcode")
@@ -177,7 +188,8 @@ fn make<'a>(alloc: Global) -> Result<Command<'a>, AllocError> {
 fn boxes<'a>(alloc: Global) -> Result<Command<'a>, AllocError> {
     let read = "the JP2 or JPX file that is read; - is standard input";
     let command = Command::new(alloc, "boxes").about(BOXES).after_help(TREE);
-    with_place(alloc, command, "in", "IN", read)
+    let command = with_place(alloc, command, "in", "IN", read)?;
+    with_limit(alloc, command)
 }
 
 /// The command `same`, with its help.
@@ -191,7 +203,8 @@ fn same<'a>(alloc: Global) -> Result<Command<'a>, AllocError> {
         .help("threads that compare code-blocks;\n1 to 64, default 1; as in --threads 4")
         .value_name("N")
         .action(ArgAction::Set);
-    command.arg(threads)
+    let command = command.arg(threads)?;
+    with_limit(alloc, command)
 }
 
 /// The command `show`, with its help.
@@ -203,7 +216,8 @@ fn show<'a>(alloc: Global) -> Result<Command<'a>, AllocError> {
         .action(ArgAction::SetTrue);
     let command = Command::new(alloc, "show").about(SHOW).after_help(FACTS);
     let command = with_place(alloc, command, "in", "IN", read)?;
-    command.arg(json)
+    let command = command.arg(json)?;
+    with_limit(alloc, command)
 }
 
 /// The program without its commands.

@@ -44,7 +44,7 @@ pub enum Refusal {
     },
     /// The input can't have what is asked.
     Choice {
-        /// The choice, 1 to 9.
+        /// The choice, 1 to 11.
         number: u8,
         /// The code-block or the tile.
         place: u32,

@@ -82,7 +82,7 @@ fn limit_filled(
 fn limit(alloc: Global, number: u8, found: u128, input: &str) -> Result<String, AllocError>
     ensures { IfOk result (λ text. string_bytes text ≡ limit_sentence number found input.now) }
 {
-    limit_filled(alloc, limit_text(number), number, found, input)
+    limit_filled(alloc, limit_text(number, found), number, found, input)
 }
 
 /// A choice that can't be had.

@@ -1,6 +1,7 @@
 -- The table of the options of `jx transcode`: what each is called, what stands for it where it isn't among the words, which words are its values, and what the help says of it.
 use Rattle.std.specs.Prelude.{ℕ, Bool, true, false, List, [], ◌∷◌, Option, None, Some, map, codes, if◌then◌else◌, is_some}
 use Rattle.std.specs.Str.{bytes_eq}
+use Rattle.jx_base.specs.Limits.{most_bytes}
 use Rattle.jx_base.specs.Texts.{number_in}
 use Rattle.jx_options.specs.declared.FormChoice.{FormChoice}
 use Rattle.jx_options.specs.declared.FormChoice.TheVariants as form
@@ -15,7 +16,7 @@ use Rattle.jx_options.specs.Values.{precincts_said, style_said, value_in}
 
 -- in the order of the help
 abbrev pub all_names : List OptionName
-all_names = name.Order ∷ name.Precincts ∷ name.Layers ∷ name.TileParts ∷ name.Sop ∷ name.Eph ∷ name.Plt ∷ name.Tlm ∷ name.Rsiz ∷ name.Form ∷ name.Style ∷ name.Reduce ∷ name.Threads ∷ name.Window ∷ name.WindowBytes ∷ []
+all_names = name.Order ∷ name.Precincts ∷ name.Layers ∷ name.TileParts ∷ name.Sop ∷ name.Eph ∷ name.Plt ∷ name.Tlm ∷ name.Rsiz ∷ name.Form ∷ name.Style ∷ name.Reduce ∷ name.LimitBytes ∷ name.Threads ∷ name.Window ∷ name.WindowBytes ∷ []
 
 abbrev pub name_of : OptionName → List ℕ
 name_of name.Order = codes "order"
@@ -30,6 +31,7 @@ name_of name.Rsiz = codes "rsiz"
 name_of name.Form = codes "form"
 name_of name.Style = codes "style"
 name_of name.Reduce = codes "reduce"
+name_of name.LimitBytes = codes "limit-bytes"
 name_of name.Threads = codes "threads"
 name_of name.Window = codes "window"
 name_of name.WindowBytes = codes "window-bytes"
@@ -48,6 +50,7 @@ default_of name.Rsiz = codes "zero"
 default_of name.Form = codes "keep"
 default_of name.Style = codes "keep"
 default_of name.Reduce = codes "0"
+default_of name.LimitBytes = codes "268435456"
 default_of name.Threads = codes "1"
 default_of name.Window = codes "64"
 default_of name.WindowBytes = codes "268435456"
@@ -101,7 +104,7 @@ abbrev pub window_said : List ℕ → Option ℕ
 window_said = number_in 1024
 
 abbrev pub bytes_said : List ℕ → Option ℕ
-bytes_said = number_in 268435456
+bytes_said = number_in most_bytes
 
 -- ---- values of all
 
@@ -123,6 +126,7 @@ is_value name.Rsiz word = is_some (rsiz_said word)
 is_value name.Form word = is_some (form_said word)
 is_value name.Style word = is_some (style_said word)
 is_value name.Reduce word = is_some (reduce_said word)
+is_value name.LimitBytes word = is_some (bytes_said word)
 is_value name.Threads word = is_some (threads_said word)
 is_value name.Window word = is_some (window_said word)
 is_value name.WindowBytes word = is_some (bytes_said word)
@@ -138,6 +142,7 @@ no_marks = record { sop = false; eph = false; plt = false; tlm = false; parts = 
 abbrev pub heading_of : OptionName → List ℕ
 heading_of name.Style = codes "How code-blocks are coded"
 heading_of name.Reduce = codes "How much of the picture is written"
+heading_of name.LimitBytes = codes "How large a file is taken"
 heading_of name.Threads = codes "How the work is done (the file doesn't depend on it)"
 heading_of name.Window = codes "How the work is done (the file doesn't depend on it)"
 heading_of name.WindowBytes = codes "How the work is done (the file doesn't depend on it)"
@@ -153,6 +158,7 @@ placeholder_of name.Rsiz = codes "PROFILE"
 placeholder_of name.Form = codes "FORM"
 placeholder_of name.Style = codes "NAMES"
 placeholder_of name.Reduce = codes "D"
+placeholder_of name.LimitBytes = codes "N"
 placeholder_of name.Threads = codes "N"
 placeholder_of name.Window = codes "N"
 placeholder_of name.WindowBytes = codes "N"
@@ -172,16 +178,18 @@ what_of name.Rsiz = codes "zero or keep: no profile is claimed, or that of\nthe 
 what_of name.Form = codes "keep or j2k: of a JP2 file a JP2 file again, or\nthe codestream alone\ndefault keep; as in --form j2k"
 what_of name.Style = codes "keep, none, or names with + between them:\nbypass, reset, terminate, causal, segment\ndefault keep; as in --style terminate+reset"
 what_of name.Reduce = codes "leave out the D highest resolutions: the picture\nis 2^D times smaller both ways\n0 to 32, default 0; as in --reduce 1"
+what_of name.LimitBytes = codes "the most bytes that an input may have (limit 1)\n1 to 4294967295, default 268435456"
 what_of name.Threads = codes "workers that code blocks anew\n1 to 64, default 1; as in --threads 4"
 what_of name.Window = codes "blocks that are in work or wait for their turn\n1 to 1024, default 64; as in --window 16"
-what_of name.WindowBytes = codes "bytes of several such blocks together\n1 to 268435456, the default"
+what_of name.WindowBytes = codes "bytes of several such blocks together\n1 to 4294967295, default 268435456"
 
 -- the least and the greatest of values that are numbers
 abbrev pub range_of : OptionName → List ℕ
 range_of name.Reduce = codes "0 to 32"
+range_of name.LimitBytes = codes "1 to 4294967295"
 range_of name.Threads = codes "1 to 64"
 range_of name.Window = codes "1 to 1024"
-range_of name.WindowBytes = codes "1 to 268435456"
+range_of name.WindowBytes = codes "1 to 4294967295"
 range_of _ = []
 
 -- what a value has to be that is neither a number, nor listed, nor any text

@@ -1,5 +1,6 @@
 -- How the work is done.
-use Rattle.std.specs.Prelude.{◌≤◌, ◌^◌, ℕ}
+use Rattle.std.specs.Prelude.{◌≤◌, ℕ}
+use Rattle.jx_base.specs.Limits.{most_bytes}
 
 -- so many workers recode blocks; so many blocks may stand between claim and sequence; and so many bytes the pieces of several such
 -- blocks may have together
@@ -15,4 +16,9 @@ pub record MayBeWork (w : Work) : Type 0 where
   pub some_window : 1 ≤ w.window
   pub few_window : w.window ≤ 1024
   pub some_most : 1 ≤ w.most
-  pub few_most : w.most ≤ 2 ^ 28
+  pub few_most : w.most ≤ most_bytes
+
+-- the most bytes that an input may have, as words can ask for it
+pub record MayBeLimit (limit : ℕ) : Type 0 where
+  pub some : 1 ≤ limit
+  pub few : limit ≤ most_bytes

@@ -9,7 +9,7 @@ use crate::numbers::number_in;
 use crate::options::OrderChoice;
 use crate::values::{precincts_said, style_said};
 use crate::{FormChoice, PartChoice, RsizChoice};
-use jx_base::NoMemory;
+use jx_base::{MOST_BYTES, NoMemory};
 use std::alloc::Global;
 
 /// An option.
@@ -39,6 +39,8 @@ pub enum OptionName {
     Style,
     /// How many of the highest resolutions are left out (A.5.1, B.5).
     Reduce,
+    /// How many bytes an input may have.
+    LimitBytes,
     /// How many workers recode blocks.
     Threads,
     /// How many blocks may stand between claim and sequence.
@@ -144,11 +146,11 @@ pub fn window_said(word: &str) -> Option<u32>
     number_in(1_024, word)
 }
 
-/// The bytes that a word lets several such blocks have together, 1 to 2^28.
+/// The bytes that a word lets several such blocks have together, or an input, 1 to 2^32 - 1.
 pub fn bytes_said(word: &str) -> Option<u32>
     ensures { result ≡ bytes_said word.now }
 {
-    number_in(268_435_456, word)
+    number_in(MOST_BYTES as u32, word)
 }
 
 impl OptionName {
@@ -169,6 +171,7 @@ impl OptionName {
             OptionName::Form,
             OptionName::Style,
             OptionName::Reduce,
+            OptionName::LimitBytes,
             OptionName::Threads,
             OptionName::Window,
             OptionName::WindowBytes,
@@ -192,6 +195,7 @@ impl OptionName {
             OptionName::Form => "form",
             OptionName::Style => "style",
             OptionName::Reduce => "reduce",
+            OptionName::LimitBytes => "limit-bytes",
             OptionName::Threads => "threads",
             OptionName::Window => "window",
             OptionName::WindowBytes => "window-bytes",
@@ -214,7 +218,7 @@ impl OptionName {
             OptionName::Reduce => "0",
             OptionName::Threads => "1",
             OptionName::Window => "64",
-            OptionName::WindowBytes => "268435456",
+            OptionName::LimitBytes | OptionName::WindowBytes => "268435456",
         }
     }
 
@@ -261,7 +265,7 @@ impl OptionName {
             OptionName::Reduce => reduce_said(word).is_some(),
             OptionName::Threads => threads_said(word).is_some(),
             OptionName::Window => window_said(word).is_some(),
-            OptionName::WindowBytes => bytes_said(word).is_some(),
+            OptionName::LimitBytes | OptionName::WindowBytes => bytes_said(word).is_some(),
         };
         Ok(good)
     }
@@ -273,6 +277,7 @@ impl OptionName {
         match self {
             OptionName::Style => "How code-blocks are coded",
             OptionName::Reduce => "How much of the picture is written",
+            OptionName::LimitBytes => "How large a file is taken",
             OptionName::Threads | OptionName::Window | OptionName::WindowBytes => {
                 "How the work is done (the file doesn't depend on it)"
             }
@@ -293,7 +298,10 @@ impl OptionName {
             OptionName::Form => "FORM",
             OptionName::Style => "NAMES",
             OptionName::Reduce => "D",
-            OptionName::Threads | OptionName::Window | OptionName::WindowBytes => "N",
+            OptionName::LimitBytes
+            | OptionName::Threads
+            | OptionName::Window
+            | OptionName::WindowBytes => "N",
             OptionName::Sop | OptionName::Eph | OptionName::Plt | OptionName::Tlm => "",
         }
     }
@@ -331,6 +339,9 @@ impl OptionName {
             OptionName::Reduce => {
                 "leave out the D highest resolutions: the picture\nis 2^D times smaller both ways\n0 to 32, default 0; as in --reduce 1"
             }
+            OptionName::LimitBytes => {
+                "the most bytes that an input may have (limit 1)\n1 to 4294967295, default 268435456"
+            }
             OptionName::Threads => {
                 "workers that code blocks anew\n1 to 64, default 1; as in --threads 4"
             }
@@ -338,7 +349,7 @@ impl OptionName {
                 "blocks that are in work or wait for their turn\n1 to 1024, default 64; as in --window 16"
             }
             OptionName::WindowBytes => {
-                "bytes of several such blocks together\n1 to 268435456, the default"
+                "bytes of several such blocks together\n1 to 4294967295, default 268435456"
             }
         }
     }
@@ -351,7 +362,7 @@ impl OptionName {
             OptionName::Reduce => "0 to 32",
             OptionName::Threads => "1 to 64",
             OptionName::Window => "1 to 1024",
-            OptionName::WindowBytes => "1 to 268435456",
+            OptionName::LimitBytes | OptionName::WindowBytes => "1 to 4294967295",
             _ => "",
         }
     }

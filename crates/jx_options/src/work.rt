@@ -9,7 +9,7 @@ pub struct Work {
     pub threads: u32,
     /// How many blocks may stand between claim and sequence, 1 to 1,024.
     pub window: u32,
-    /// How many bytes the pieces of several such blocks may have together, 1 to 2^28.
+    /// How many bytes the pieces of several such blocks may have together, 1 to 2^32 - 1.
     pub most: u32,
 }
 

@@ -35,7 +35,7 @@ use Rattle.jx_tier2_writer.specs.TileParts.{AreTilePartsOf, IsOutput}
 use Rattle.jx_tier2_writer.specs.declared.index.PartLength.{PartLength}
 use Rattle.jx_transcode.specs.Aims.{Aim, rule_in}
 use Rattle.jx_transcode.specs.Filed.{IsAnswered, IsFileBegun, IsFileCut, IsFileHalted, IsFileMade, IsFileSpoiled, IsEndOf, status_of}
-use Rattle.jx_transcode.specs.Outcome.{IsCutShort, IsStopped, IsUnbegun, IsUnfinished, IsVerdict, Leaves, LeavesBegun, most_bytes}
+use Rattle.jx_transcode.specs.Outcome.{IsCutShort, IsStopped, IsUnbegun, IsUnfinished, IsVerdict, Leaves, LeavesBegun}
 use Rattle.jx_transcode.specs.Rewritten.{CanBePlanned, HasBlocks, IsBad, IsFront, IsFrontOf, IsKept, IsLong, IsRewritten, IsSpoiled, ReadsLeft, headers_of}
 use Rattle.jx_rounds.specs.Tiles.{IsRight, IsWrongAt, Round, round_of}
 use Rattle.jx_transcode.specs.Rewritten.{IsTooLongAt}
@@ -113,7 +113,7 @@ pub record Laws : Type 0 where
   pub parts : (m : Marks) (s : Stream) (blocks : List Block) (t : ℕ) (xs ys : List TilePart) → AreTilePartsOf m s blocks t xs → AreTilePartsOf m s blocks t ys → xs ≡ ys
 
 -- ---- what stands of the file of an input that was planned
-module _ (laws : Laws) (aim : Aim) (input : List ℕ) (s : Stream) (blocks : List Block) (jobs : List Job) (reads : ReadsLeft aim.reduce input s blocks) (planned : MayBePlanned s blocks) (within : length input ≤ most_bytes)
+module _ (laws : Laws) (aim : Aim) (input : List ℕ) (s : Stream) (blocks : List Block) (jobs : List Job) (reads : ReadsLeft aim.reduce input s blocks) (planned : MayBePlanned s blocks) (within : length input ≤ aim.limit)
     (may : MayBeWanted aim.wanted) (can : CanBePlanned aim s blocks) (same : map block_asked jobs ≡ blocks_written aim.wanted can.by s blocks) (all : length blocks ≡ block_total s) where
   abbrev w : Wanted
   w = aim.wanted
@@ -455,7 +455,7 @@ module _ (laws : Laws) (aim : Aim) (input : List ℕ) (s : Stream) (blocks : Lis
   answered name work (Err why) st n bytes tape old new is ends = rw ends.0 (halted name work n bytes tape old new is.count is.tape why is.err is.taped)
 
 answered_by_rule : Laws → (name : Text) (work : Work) (aim : Aim) (input : List ℕ) (s : Stream) (blocks : List Block) (p : Plan) (wrote : Result ℕ Halt) (st : Status) (n bytes : ℕ) (tape : List TapeEntry) (old new : Meaning)
-    → MayBeWanted aim.wanted → (r : Rule) → rule_in aim s blocks ≡ Some r → IsPlannedBy r s blocks aim.wanted p → IsCarriedOut p name work wrote n tape old new → IsEndOf wrote st bytes → length input ≤ most_bytes
+    → MayBeWanted aim.wanted → (r : Rule) → rule_in aim s blocks ≡ Some r → IsPlannedBy r s blocks aim.wanted p → IsCarriedOut p name work wrote n tape old new → IsEndOf wrote st bytes → length input ≤ aim.limit
     → ReadsLeft aim.reduce input s blocks → IsAnswered name work aim input st n bytes tape old new
 answered_by_rule laws name work aim input s blocks p wrote st n bytes tape old new may r is planned done ends within reads =
     let same : p ≡ plan_of s blocks aim.wanted (layers_of_rule r s blocks) p.jobs = plan_is r s blocks aim.wanted p planned in
@@ -464,14 +464,14 @@ answered_by_rule laws name work aim input s blocks p wrote st n bytes tape old n
     answered laws aim input s blocks p.jobs reads own.plan.may within may can (laws.blocks s blocks aim.wanted r p done.plan planned) own.plan.may.blocks_are.all name work wrote st n bytes tape old new own ends
 
 answered_by : Laws → (name : Text) (work : Work) (aim : Aim) (input : List ℕ) (s : Stream) (blocks : List Block) (p : Plan) (wrote : Result ℕ Halt) (st : Status) (n bytes : ℕ) (tape : List TapeEntry) (old new : Meaning)
-    → MayBeWanted aim.wanted → (o : Option Rule) → rule_in aim s blocks ≡ o → IsPlanned o s blocks aim.wanted p → IsCarriedOut p name work wrote n tape old new → IsEndOf wrote st bytes → length input ≤ most_bytes
+    → MayBeWanted aim.wanted → (o : Option Rule) → rule_in aim s blocks ≡ o → IsPlanned o s blocks aim.wanted p → IsCarriedOut p name work wrote n tape old new → IsEndOf wrote st bytes → length input ≤ aim.limit
     → ReadsLeft aim.reduce input s blocks → IsAnswered name work aim input st n bytes tape old new
 answered_by laws name work aim input s blocks p wrote st n bytes tape old new may None is planned done ends within reads = absurd planned
 answered_by laws name work aim input s blocks p wrote st n bytes tape old new may (Some r) is planned done ends within reads =
     answered_by_rule laws name work aim input s blocks p wrote st n bytes tape old new may r is planned done ends within reads
 
 pub answered_by_plan : Laws → (name : Text) (work : Work) (aim : Aim) (input : List ℕ) (s : Stream) (blocks : List Block) (p : Plan) (wrote : Result ℕ Halt) (st : Status) (n bytes : ℕ) (tape : List TapeEntry) (old new : Meaning)
-    → MayBeWanted aim.wanted → IsPlanned (rule_in aim s blocks) s blocks aim.wanted p → IsCarriedOut p name work wrote n tape old new → IsEndOf wrote st bytes → length input ≤ most_bytes → ReadsLeft aim.reduce input s blocks
+    → MayBeWanted aim.wanted → IsPlanned (rule_in aim s blocks) s blocks aim.wanted p → IsCarriedOut p name work wrote n tape old new → IsEndOf wrote st bytes → length input ≤ aim.limit → ReadsLeft aim.reduce input s blocks
     → IsAnswered name work aim input st n bytes tape old new
 answered_by_plan laws name work aim input s blocks p wrote st n bytes tape old new may planned done ends within reads =
     answered_by laws name work aim input s blocks p wrote st n bytes tape old new may (rule_in aim s blocks) refl planned done ends within reads

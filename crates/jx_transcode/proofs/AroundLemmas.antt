@@ -15,7 +15,7 @@ use Rattle.jx_transcode.specs.Aims.{Aim}
 use Rattle.jx_transcode.specs.Filed.{IsAnswered, unwritten_as}
 use Rattle.jx_transcode.specs.Jp2Run.{EndsAround, EndsJp2, IsFileEnd, LeavesFile, VerdictAt, file_in, raised}
 use Rattle.jx_transcode.specs.MakeRun.{IsLastMade, IsMadeAnew, TellsMade}
-use Rattle.jx_transcode.specs.Outcome.{IsBegun, IsMade, IsVerdict, Verdict, most_bytes}
+use Rattle.jx_transcode.specs.Outcome.{IsBegun, IsMade, IsVerdict, Verdict}
 use Rattle.jx_transcode.specs.declared.status.Status.{Status}
 use Rattle.jx_transcode.specs.declared.status.Status.TheVariants as status
 use Rattle.jx_rounds.specs.declared.tape.TapeEntry.{TapeEntry}
@@ -139,7 +139,7 @@ output_of : (called : Text) (work : Work) (aim : Aim) (inner : List ℕ) (s : St
     → IsOutOf called aim inner s blocks bytes new
 output_of called work aim inner s blocks bytes entries new is = out_of called aim inner s blocks bytes new is.words is.read is.write is.answer.leaves
 
-pub around_refused : (name called : Text) (work : Work) (kind : FormChoice) (aim : Aim) (input : List ℕ) (boxed : Boxed) (s : Status) (blocks bytes : ℕ) (entries : List TapeEntry) (made files : Meaning) → length input ≤ most_bytes → IsCodestream input boxed
+pub around_refused : (name called : Text) (work : Work) (kind : FormChoice) (aim : Aim) (input : List ℕ) (boxed : Boxed) (s : Status) (blocks bytes : ℕ) (entries : List TapeEntry) (made files : Meaning) → length input ≤ aim.limit → IsCodestream input boxed
     → IsInMemory called work aim (content input boxed) s blocks bytes entries made → (s ≡ status.Done → ⊥)
     → EndsAround name work kind aim input boxed (raised boxed.from s) blocks 0 entries files files
 around_refused name called work kind aim input boxed s blocks bytes entries made files within found is other =
@@ -157,7 +157,7 @@ around_refused name called work kind aim input boxed s blocks bytes entries made
     }
 
 -- ---- a codestream with one
-pub around_written : (name called : Text) (work : Work) (kind : FormChoice) (aim : Aim) (input : List ℕ) (boxed : Boxed) (s late : Status) (blocks bytes long : ℕ) (entries : List TapeEntry) (out : List ℕ) (made old new : Meaning) → length input ≤ most_bytes
+pub around_written : (name called : Text) (work : Work) (kind : FormChoice) (aim : Aim) (input : List ℕ) (boxed : Boxed) (s late : Status) (blocks bytes long : ℕ) (entries : List TapeEntry) (out : List ℕ) (made old new : Meaning) → length input ≤ aim.limit
     → IsCodestream input boxed → IsInMemory called work aim (content input boxed) s blocks bytes entries made → s ≡ status.Done → ((last file : List ℕ) → IsLastMade last file made → out ≡ file)
     → IsFileEnd late → LeavesFile name (file_in kind input boxed out) late long old new
     → EndsAround name work kind aim input boxed late blocks long entries old new
@@ -211,9 +211,9 @@ around_written name called work kind aim input boxed s late blocks bytes long en
     })
 
 -- ---- no codestream
-pub too_long_jp2 : (name : Text) (work : Work) (kind : FormChoice) (aim : Aim) (input : List ℕ) (files : Meaning) → most_bytes < length input → EndsJp2 name work kind aim input (status.Limit 1 268435457) 0 0 [] files files
+pub too_long_jp2 : (name : Text) (work : Work) (kind : FormChoice) (aim : Aim) (input : List ℕ) (files : Meaning) → aim.limit < length input → EndsJp2 name work kind aim input (status.Limit 1 (aim.limit + 1)) 0 0 [] files files
 too_long_jp2 name work kind aim input files long = inl (record { verdict = λ v. (long, refl, refl); none = refl; tape = refl; same = untouched files })
 
-pub boxes_refused : (name : Text) (work : Work) (kind : FormChoice) (aim : Aim) (input : List ℕ) (number place : ℕ) (files : Meaning) → length input ≤ most_bytes → IsNextFault input 0 number place
+pub boxes_refused : (name : Text) (work : Work) (kind : FormChoice) (aim : Aim) (input : List ℕ) (number place : ℕ) (files : Meaning) → length input ≤ aim.limit → IsNextFault input 0 number place
     → EndsJp2 name work kind aim input (status.Rule number place) 0 0 [] files files
 boxes_refused name work kind aim input number place files within broken = inl (record { verdict = λ v. (within, broken); none = refl; tape = refl; same = untouched files })

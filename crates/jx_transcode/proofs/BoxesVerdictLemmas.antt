@@ -6,7 +6,6 @@ use Rattle.std.proofs.lemmas.Slice.Eq.{bytes_eq-Decides}
 use Rattle.jx_jp2.specs.Codestream.{IsJp2, signature}
 use Rattle.jx_jp2.specs.Trees.{IsTree, IsTreeBroken, Tree}
 use Rattle.jx_transcode.specs.BoxesRun.{BoxesVerdict, BreaksBoxes}
-use Rattle.jx_transcode.specs.Outcome.{most_bytes}
 use Rattle.jx_transcode.specs.declared.status.Status.{Status}
 use Rattle.jx_transcode.specs.declared.status.Status.TheVariants as status
 
@@ -19,18 +18,18 @@ abbrev pub SomeTree : Type 0
 SomeTree = (bytes : List ℕ) → ((tree : Tree) × IsTree bytes tree) ⊎ ((number : ℕ) × (place : ℕ) × IsTreeBroken bytes number place)
 
 -- ---- at most one
-module _ (laws : OneTree) (input : List ℕ) where
+module _ (laws : OneTree) (limit : ℕ) (input : List ℕ) where
   same_rule : (n p k q : ℕ) → BreaksBoxes input n p → BreaksBoxes input k q → status.Rule n p ≡ status.Rule k q
   same_rule n p k q (inl x) (inl y) = rw (x.1, x.2, y.1, y.2) refl
   same_rule n p k q (inl x) (inr y) = absurd (x.0 y.0)
   same_rule n p k q (inr x) (inl y) = absurd (y.0 x.0)
   same_rule n p k q (inr x) (inr y) = let same = laws.fault input n p k q x.1 y.1 in rw (same.0, same.1) refl
 
-  done_and_rule : (n p : ℕ) → BoxesVerdict input status.Done → BreaksBoxes input n p → ⊥
+  done_and_rule : (n p : ℕ) → BoxesVerdict limit input status.Done → BreaksBoxes input n p → ⊥
   done_and_rule n p x (inl y) = y.0 x.1
   done_and_rule n p x (inr y) = laws.either input x.2 n p x.3 y.1
 
-  pub one_of_boxes : (s t : Status) → BoxesVerdict input s → BoxesVerdict input t → s ≡ t
+  pub one_of_boxes : (s t : Status) → BoxesVerdict limit input s → BoxesVerdict limit input t → s ≡ t
   one_of_boxes status.Done status.Done x y = refl
   one_of_boxes status.Done (status.Rule n p) x y = absurd (done_and_rule n p x y.1)
   one_of_boxes status.Done (status.Limit n p) x y = absurd (omega (arith, x.0, y.0))
@@ -70,21 +69,21 @@ module _ (laws : OneTree) (input : List ℕ) where
   one_of_boxes status.NoMemory t x y = absurd x
 
 -- ---- and one
-module _ (some : SomeTree) (input : List ℕ) where
-  tree_verdict : length input ≤ most_bytes → IsJp2 input → (s : Status) × BoxesVerdict input s
+module _ (some : SomeTree) (limit : ℕ) (input : List ℕ) where
+  tree_verdict : length input ≤ limit → IsJp2 input → (s : Status) × BoxesVerdict limit input s
   tree_verdict short is = elim (some input) [
     | inl tree ↦ (status.Done, (short, is, tree.0, tree.1))
     | inr broken ↦ (status.Rule broken.0 broken.1, (short, inr (is, broken.2)))
   ]
 
-  short_boxes : length input ≤ most_bytes → (s : Status) × BoxesVerdict input s
+  short_boxes : length input ≤ limit → (s : Status) × BoxesVerdict limit input s
   short_boxes short = elim (cases_Bool (bytes_eq (take 12 input) signature)) [
     | inl is ↦ tree_verdict short ((bytes_eq-Decides (take 12 input) signature).0 is)
     | inr other ↦ (status.Rule 36 0, (short, inl (λ is. both_ways (bytes_eq (take 12 input) signature) other ((bytes_eq-Decides (take 12 input) signature).1 is), refl, refl)))
   ]
 
-  pub some_of_boxes : (s : Status) × BoxesVerdict input s
-  some_of_boxes = elim (cases_lt most_bytes (length input)) [
-    | inl long ↦ (status.Limit 1 (most_bytes + 1), (long, refl, refl))
+  pub some_of_boxes : (s : Status) × BoxesVerdict limit input s
+  some_of_boxes = elim (cases_lt limit (length input)) [
+    | inl long ↦ (status.Limit 1 (limit + 1), (long, refl, refl))
     | inr short ↦ short_boxes short
   ]

@@ -4,18 +4,19 @@ use Rattle.std.specs.Str.{bytes_eq}
 use Rattle.std.proofs.lemmas.Bool.{both_ways, cases_Bool, cases_lt}
 use Rattle.std.proofs.lemmas.List.Elements.{All-drop, All-take}
 use Rattle.std.proofs.lemmas.Slice.Eq.{bytes_eq-Decides}
+use Rattle.jx_base.specs.Limits.{most_bytes}
 use Rattle.jx_marker.specs.Ranges.{AreBytes}
 use Rattle.jx_jp2.specs.declared.Boxed.{Boxed}
 use Rattle.jx_jp2.specs.Codestream.{IsCodestream, IsNextFault, content, signature}
 use Rattle.jx_transcode.specs.Aims.{Aim, MayBeAimed}
 use Rattle.jx_transcode.specs.Jp2Run.{FileVerdict, Jp2Verdict, RefusesBoxes, VerdictAt, raised}
-use Rattle.jx_transcode.specs.Outcome.{Verdict, most_bytes}
+use Rattle.jx_transcode.specs.Outcome.{Verdict}
 use Rattle.jx_transcode.specs.declared.status.Status.{Status}
 use Rattle.jx_transcode.specs.declared.status.Status.TheVariants as status
 
 -- ---- the laws that this rests on
 abbrev pub HasOne : Type 0
-HasOne = (aim : Aim) (input : List ℕ) (s t : Status) → Verdict aim input s → Verdict aim input t → s ≡ t
+HasOne = (aim : Aim) (input : List ℕ) (s t : Status) → aim.limit ≤ most_bytes → Verdict aim input s → Verdict aim input t → s ≡ t
 
 pub record OneCodestream : Type 0 where
   pub same : (bytes : List ℕ) (first second : Boxed) → IsCodestream bytes first → IsCodestream bytes second → first ≡ second
@@ -23,32 +24,32 @@ pub record OneCodestream : Type 0 where
   pub fault : (bytes : List ℕ) (number place number2 place2 : ℕ) → IsNextFault bytes 0 number place → IsNextFault bytes 0 number2 place2 → (number ≡ number2) × (place ≡ place2)
 
 -- ---- a refusal by boxes is a limit or a rule
-record IsRule (input : List ℕ) (s : Status) : Type 0 where
+record IsRule (limit : ℕ) (input : List ℕ) (s : Status) : Type 0 where
   number : ℕ
   place : ℕ
-  within : length input ≤ most_bytes
+  within : length input ≤ limit
   broken : IsNextFault input 0 number place
   is : s ≡ status.Rule number place
 
-refusal : (input : List ℕ) (s : Status) → RefusesBoxes input s → ((most_bytes < length input) × (s ≡ status.Limit 1 (most_bytes + 1))) ⊎ IsRule input s
-refusal input status.Done r = absurd r
-refusal input status.Words r = absurd r
-refusal input (status.Unlike how) r = absurd r
-refusal input (status.Rule number place) r = inr (record { number = number; place = place; within = r.0; broken = r.1; is = refl })
-refusal input (status.Limit number found) r = inl (r.0, rw (r.1, r.2) refl)
-refusal input (status.Choice number place) r = absurd r
-refusal input (status.Block number) r = absurd r
-refusal input status.ReadFault r = absurd r
-refusal input status.WriteFault r = absurd r
-refusal input status.NoMemory r = absurd r
+refusal : (limit : ℕ) (input : List ℕ) (s : Status) → RefusesBoxes limit input s → ((limit < length input) × (s ≡ status.Limit 1 (limit + 1))) ⊎ IsRule limit input s
+refusal limit input status.Done r = absurd r
+refusal limit input status.Words r = absurd r
+refusal limit input (status.Unlike how) r = absurd r
+refusal limit input (status.Rule number place) r = inr (record { number = number; place = place; within = r.0; broken = r.1; is = refl })
+refusal limit input (status.Limit number found) r = inl (r.0, rw (r.1, r.2) refl)
+refusal limit input (status.Choice number place) r = absurd r
+refusal limit input (status.Block number) r = absurd r
+refusal limit input status.ReadFault r = absurd r
+refusal limit input status.WriteFault r = absurd r
+refusal limit input status.NoMemory r = absurd r
 
-one_refusal : OneCodestream → (input : List ℕ) (s t : Status) → RefusesBoxes input s → RefusesBoxes input t → s ≡ t
-one_refusal laws input s t x y = elim (refusal input s x) [
-  | inl long ↦ elim (refusal input t y) [
+one_refusal : OneCodestream → (limit : ℕ) (input : List ℕ) (s t : Status) → RefusesBoxes limit input s → RefusesBoxes limit input t → s ≡ t
+one_refusal laws limit input s t x y = elim (refusal limit input s x) [
+  | inl long ↦ elim (refusal limit input t y) [
     | inl other ↦ long.1 ∙ sym other.1
     | inr rule ↦ absurd (omega (arith, long.0, rule.within))
   ]
-  | inr rule ↦ elim (refusal input t y) [
+  | inr rule ↦ elim (refusal limit input t y) [
     | inl long ↦ absurd (omega (arith, long.0, rule.within))
     | inr other ↦
         let same = laws.fault input rule.number rule.place other.number other.place rule.broken other.broken in
@@ -74,32 +75,32 @@ lowered aim from inner status.ReadFault v = absurd v
 lowered aim from inner status.WriteFault v = absurd v
 lowered aim from inner status.NoMemory v = absurd v
 
-one_raised : HasOne → (aim : Aim) (from : ℕ) (inner : List ℕ) (s t : Status) → VerdictAt aim from inner s → VerdictAt aim from inner t → s ≡ t
-one_raised one aim from inner s t x y =
+one_raised : HasOne → (aim : Aim) → aim.limit ≤ most_bytes → (from : ℕ) (inner : List ℕ) (s t : Status) → VerdictAt aim from inner s → VerdictAt aim from inner t → s ≡ t
+one_raised one aim few from inner s t x y =
     let a : IsRaised aim from inner s = lowered aim from inner s x in
     let b : IsRaised aim from inner t = lowered aim from inner t y in
-    a.is ∙ ap (raised from) (one aim inner a.own b.own a.verdict b.verdict) ∙ sym b.is
+    a.is ∙ ap (raised from) (one aim inner a.own b.own few a.verdict b.verdict) ∙ sym b.is
 
 -- ---- a file
-refused_or_read : OneCodestream → (input : List ℕ) (s : Status) (boxed : Boxed) → RefusesBoxes input s → length input ≤ most_bytes → IsCodestream input boxed → ⊥
-refused_or_read laws input s boxed x within found = elim (refusal input s x) [
+refused_or_read : OneCodestream → (limit : ℕ) (input : List ℕ) (s : Status) (boxed : Boxed) → RefusesBoxes limit input s → length input ≤ limit → IsCodestream input boxed → ⊥
+refused_or_read laws limit input s boxed x within found = elim (refusal limit input s x) [
   | inl long ↦ omega (arith, long.0, within)
   | inr rule ↦ laws.either input boxed rule.number rule.place found rule.broken
 ]
 
-one_jp2 : HasOne → OneCodestream → (aim : Aim) (input : List ℕ) (s t : Status) → Jp2Verdict aim input s → Jp2Verdict aim input t → s ≡ t
-one_jp2 one laws aim input s t (inl x) (inl y) = one_refusal laws input s t x y
-one_jp2 one laws aim input s t (inl x) (inr y) = absurd (refused_or_read laws input s y.1 x y.0 y.2)
-one_jp2 one laws aim input s t (inr x) (inl y) = absurd (refused_or_read laws input t x.1 y x.0 x.2)
-one_jp2 one laws aim input s t (inr x) (inr y) =
+one_jp2 : HasOne → OneCodestream → (aim : Aim) → aim.limit ≤ most_bytes → (input : List ℕ) (s t : Status) → Jp2Verdict aim input s → Jp2Verdict aim input t → s ≡ t
+one_jp2 one laws aim few input s t (inl x) (inl y) = one_refusal laws aim.limit input s t x y
+one_jp2 one laws aim few input s t (inl x) (inr y) = absurd (refused_or_read laws aim.limit input s y.1 x y.0 y.2)
+one_jp2 one laws aim few input s t (inr x) (inl y) = absurd (refused_or_read laws aim.limit input t x.1 y x.0 x.2)
+one_jp2 one laws aim few input s t (inr x) (inr y) =
     let same : y.1 ≡ x.1 = laws.same input y.1 x.1 y.2 x.2 in
-    one_raised one aim x.1.from (content input x.1) s t x.3 (subst (λ (b : Boxed). VerdictAt aim b.from (content input b) t) same y.3)
+    one_raised one aim few x.1.from (content input x.1) s t x.3 (subst (λ (b : Boxed). VerdictAt aim b.from (content input b) t) same y.3)
 
-pub one_of_file : HasOne → OneCodestream → (aim : Aim) (input : List ℕ) (s t : Status) → FileVerdict aim input s → FileVerdict aim input t → s ≡ t
-one_of_file one laws aim input s t (inl x) (inl y) = one aim input s t x.1 y.1
-one_of_file one laws aim input s t (inl x) (inr y) = absurd (x.0 y.0)
-one_of_file one laws aim input s t (inr x) (inl y) = absurd (y.0 x.0)
-one_of_file one laws aim input s t (inr x) (inr y) = one_jp2 one laws aim input s t x.1 y.1
+pub one_of_file : HasOne → OneCodestream → (aim : Aim) (input : List ℕ) (s t : Status) → aim.limit ≤ most_bytes → FileVerdict aim input s → FileVerdict aim input t → s ≡ t
+one_of_file one laws aim input s t few (inl x) (inl y) = one aim input s t few x.1 y.1
+one_of_file one laws aim input s t few (inl x) (inr y) = absurd (x.0 y.0)
+one_of_file one laws aim input s t few (inr x) (inl y) = absurd (y.0 x.0)
+one_of_file one laws aim input s t few (inr x) (inr y) = one_jp2 one laws aim few input s t x.1 y.1
 
 -- ---- a file has a verdict
 abbrev pub SomeCodestream : Type 0
@@ -118,20 +119,20 @@ raised_at aim from inner status.WriteFault v = absurd v
 raised_at aim from inner status.NoMemory v = absurd v
 
 module _ (some : (aim : Aim) (input : List ℕ) → MayBeAimed aim → AreBytes input → (s : Status) × Verdict aim input s) (codestream : SomeCodestream) (aim : Aim) (may : MayBeAimed aim) (input : List ℕ) (bytes : AreBytes input) where
-  boxed_verdict : length input ≤ most_bytes → (boxed : Boxed) → IsCodestream input boxed → (s : Status) × Jp2Verdict aim input s
+  boxed_verdict : length input ≤ aim.limit → (boxed : Boxed) → IsCodestream input boxed → (s : Status) × Jp2Verdict aim input s
   boxed_verdict short boxed found =
       let of = some aim (content input boxed) may (All-take (λ (byte : ℕ). byte < 256) (boxed.to - boxed.from) (drop boxed.from input) (All-drop (λ (byte : ℕ). byte < 256) boxed.from input bytes)) in
       (raised boxed.from of.0, inr (short, boxed, found, raised_at aim boxed.from (content input boxed) of.0 of.1))
 
-  short_jp2 : length input ≤ most_bytes → (s : Status) × Jp2Verdict aim input s
+  short_jp2 : length input ≤ aim.limit → (s : Status) × Jp2Verdict aim input s
   short_jp2 short = elim (codestream input) [
     | inl found ↦ boxed_verdict short found.0 found.1
     | inr broken ↦ (status.Rule broken.0 broken.1, inl (short, broken.2))
   ]
 
   jp2_verdict : (s : Status) × Jp2Verdict aim input s
-  jp2_verdict = elim (cases_lt most_bytes (length input)) [
-    | inl long ↦ (status.Limit 1 (most_bytes + 1), inl (long, refl, refl))
+  jp2_verdict = elim (cases_lt aim.limit (length input)) [
+    | inl long ↦ (status.Limit 1 (aim.limit + 1), inl (long, refl, refl))
     | inr short ↦ short_jp2 short
   ]
 

@@ -1,56 +1,22 @@
--- Runs on JP2 files: after what left the files as they were, on inputs that were cut, and with their line not said.
-use Rattle.std.proofs.Common.{◌≡◌, ◌∙◌, ◌⊎◌, ◌<◌, ◌+◌, ℕ, List, length, take, inl, inr, ap, sym, Option, Some, None, arith}
-use Rattle.std.proofs.lemmas.List.{take-take}
+-- Runs on JP2 files: after what left the files as they were, and with their line not said.
+use Rattle.std.proofs.Common.{◌≡◌, ◌⊎◌, ℕ, List, length, inl, inr}
 use Rattle.jx_io.specs.Device.{Meaning}
 use Rattle.jx_cli.specs.Words.{Text}
 use Rattle.jx_jp2.specs.declared.Boxed.{Boxed}
-use Rattle.jx_jp2.specs.Codestream.{IsJp2, content}
+use Rattle.jx_jp2.specs.Codestream.{content}
 use Rattle.jx_options.specs.Work.{Work}
 use Rattle.jx_options.specs.declared.FormChoice.{FormChoice}
 use Rattle.jx_transcode.specs.Aims.{Aim}
-use Rattle.jx_transcode.specs.Jp2Run.{EndsAround, EndsBefore, EndsJp2, LeavesAround, LeavesFile, RefusesBoxes, file_in}
+use Rattle.jx_transcode.specs.Jp2Run.{EndsAround, EndsBefore, EndsJp2, LeavesAround, LeavesFile, file_in}
 use Rattle.jx_transcode.specs.MakeRun.{AreTold, TellsMade}
-use Rattle.jx_transcode.specs.Outcome.{IsBegun, IsUntouched, most_bytes}
+use Rattle.jx_transcode.specs.Outcome.{IsBegun, IsUntouched}
 use Rattle.jx_transcode.specs.declared.status.Status.{Status}
 use Rattle.jx_transcode.specs.declared.status.Status.TheVariants as status
 use Rattle.jx_rounds.specs.declared.tape.TapeEntry.{TapeEntry}
 use Rattle.jx_transcode.proofs.DoneLemmas.{undone}
-use Rattle.jx_transcode.proofs.LeftLemmas.{IsFront, begun_after, made_after, untouched_twice, whole}
+use Rattle.jx_transcode.proofs.LeftLemmas.{begun_after, made_after, untouched_twice}
 use Rattle.jx_transcode.proofs.MakeLemmas.{chosen_told, limit_told}
 use Rattle.jx_transcode.proofs.TapeLemmas.{taped_late}
-
--- ---- a front of a file is JP2 where the file is
-same_front : (bytes read : List ℕ) → read ≡ take (most_bytes + 1) bytes → take 12 read ≡ take 12 bytes
-same_front bytes read is = ap (take 12) is ∙ take-take 12 (most_bytes + 1) bytes (omega arith)
-
-pub jp2_whole : (told : Option (List ℕ)) (read : List ℕ) → IsFront told read → IsJp2 read → IsJp2 (whole told read)
-unfolding whole
-jp2_whole (Some bytes) read front is = sym (same_front bytes read front) ∙ is
-jp2_whole None read front is = is
-
-pub jp2_front : (told : Option (List ℕ)) (read : List ℕ) → IsFront told read → IsJp2 (whole told read) → IsJp2 read
-unfolding whole
-jp2_front (Some bytes) read front is = same_front bytes read front ∙ is
-jp2_front None read front is = is
-
--- ---- a front that is too long
-long_refusal : (s : Status) (read input : List ℕ) → most_bytes < length read → most_bytes < length input → RefusesBoxes read s → RefusesBoxes input s
-long_refusal status.Done read input long whole is = absurd is
-long_refusal status.Words read input long whole is = absurd is
-long_refusal (status.Unlike how) read input long whole is = absurd is
-long_refusal (status.Rule number place) read input long whole is = absurd (omega (arith, is.0, long))
-long_refusal (status.Limit number found) read input long whole is = (whole, is.1, is.2)
-long_refusal (status.Choice number place) read input long whole is = absurd is
-long_refusal (status.Block number) read input long whole is = absurd is
-long_refusal status.ReadFault read input long whole is = absurd is
-long_refusal status.WriteFault read input long whole is = absurd is
-long_refusal status.NoMemory read input long whole is = absurd is
-
-pub jp2_long : (name : Text) (work : Work) (kind : FormChoice) (aim : Aim) (read input : List ℕ) (s : Status) (blocks bytes : ℕ) (tape : List TapeEntry) (a b c : Meaning) → most_bytes < length read → most_bytes < length input → IsUntouched a b
-    → EndsJp2 name work kind aim read s blocks bytes tape b c → EndsJp2 name work kind aim input s blocks bytes tape a c
-jp2_long name work kind aim read input s blocks bytes tape a b c long whole first (inl before) =
-    inl (record { verdict = λ v. long_refusal s read input long whole (before.verdict v); none = before.none; tape = before.tape; same = untouched_twice a b c first before.same })
-jp2_long name work kind aim read input s blocks bytes tape a b c long whole first (inr around) = absurd (omega (arith, around.1.within, long))
 
 -- ---- after what left the files as they were
 file_after : (name : Text) (file : List ℕ) (s : Status) (bytes : ℕ) (a b c : Meaning) → IsUntouched a b → LeavesFile name file s bytes b c → LeavesFile name file s bytes a c
@@ -145,12 +111,12 @@ around_late late (inr e) name work kind aim input boxed s blocks bytes tape old 
   taped = taped_late aim.reduce (content input boxed) s (length tape) is.taped;
 })
 
-before_late : (late : Status) → (late ≡ status.WriteFault) ⊎ (late ≡ status.NoMemory) → (input : List ℕ) (s : Status) (blocks : ℕ) (tape : List TapeEntry) (old new : Meaning)
-    → EndsBefore input s blocks tape old new → EndsBefore input late blocks tape old new
-before_late late (inl e) input s blocks tape old new is = rw e (record { verdict = λ no. absurd no; none = is.none; tape = is.tape; same = is.same })
-before_late late (inr e) input s blocks tape old new is = rw e (record { verdict = λ no. absurd no; none = is.none; tape = is.tape; same = is.same })
+before_late : (late : Status) → (late ≡ status.WriteFault) ⊎ (late ≡ status.NoMemory) → (limit : ℕ) (input : List ℕ) (s : Status) (blocks : ℕ) (tape : List TapeEntry) (old new : Meaning)
+    → EndsBefore limit input s blocks tape old new → EndsBefore limit input late blocks tape old new
+before_late late (inl e) limit input s blocks tape old new is = rw e (record { verdict = λ no. absurd no; none = is.none; tape = is.tape; same = is.same })
+before_late late (inr e) limit input s blocks tape old new is = rw e (record { verdict = λ no. absurd no; none = is.none; tape = is.tape; same = is.same })
 
 pub jp2_late : (late : Status) → (late ≡ status.WriteFault) ⊎ (late ≡ status.NoMemory) → (name : Text) (work : Work) (kind : FormChoice) (aim : Aim) (input : List ℕ) (s : Status) (blocks bytes : ℕ) (tape : List TapeEntry) (old new : Meaning)
     → EndsJp2 name work kind aim input s blocks bytes tape old new → EndsJp2 name work kind aim input late blocks bytes tape old new
-jp2_late late fails name work kind aim input s blocks bytes tape old new (inl before) = inl (before_late late fails input s blocks tape old new before)
+jp2_late late fails name work kind aim input s blocks bytes tape old new (inl before) = inl (before_late late fails aim.limit input s blocks tape old new before)
 jp2_late late fails name work kind aim input s blocks bytes tape old new (inr around) = inr (around.0, around_late late fails name work kind aim input around.0 s blocks bytes tape old new around.1)

@@ -1,7 +1,8 @@
 -- What a written file keeps, it means.
-use Rattle.std.proofs.Common.{◌≡◌, ◌≤◌, ◌==◌, ◌&&◌, ◌∙◌, Bool, true, false, ℕ, List, [], ◌∷◌, length, None, ap, refl, subst, sym}
+use Rattle.std.proofs.Common.{◌≡◌, ◌≤◌, ◌==◌, ◌&&◌, ◌∙◌, Bool, true, false, ℕ, List, [], ◌∷◌, length, None, ap, arith, refl, subst, sym}
 use Rattle.std.specs.List.{find}
 use Rattle.std.proofs.lemmas.Bool.{and_from, eq-eqb}
+use Rattle.jx_base.specs.Limits.{most_bytes}
 use Rattle.jx_base.specs.declared.pieces.Block.{Block}
 use Rattle.jx_codestream.specs.Shapes.{size_in}
 use Rattle.jx_marker.specs.declared.Siz.{Siz}
@@ -16,7 +17,6 @@ use Rattle.jx_same.specs.declared.answer.Field.{Field}
 use Rattle.jx_same.specs.declared.answer.Field.TheVariants as field
 use Rattle.jx_same.specs.declared.answer.Spot.{Spot}
 use Rattle.jx_transcode.specs.Aims.{Aim}
-use Rattle.jx_transcode.specs.Outcome.{most_bytes}
 use Rattle.jx_transcode.specs.Rewritten.{IsKept, ReadsLeft}
 use Rattle.jx_transcode.specs.SameRun.{HasCodestream, SameVerdict}
 use Rattle.jx_transcode.specs.declared.status.Status.TheVariants as status
@@ -76,9 +76,9 @@ whole_meaning laws d input s blocks short none left =
     let is = left_is_all laws d input s blocks short none left in
     ap (λ (x : Stream). meaning_of x blocks) is.0 ∙ ap (λ (b : List Block). meaning_of left.whole b) is.1
 
-pub kept_same : WholeLaws → (aim : Aim) (input out inner again : List ℕ) (from to : ℕ) (kept : IsKept aim inner again) → aim.reduce ≡ 0 → length input ≤ most_bytes → length out ≤ most_bytes → HasCodestream input from inner
-    → HasCodestream out to again → totals_fault kept.after ≡ None → SameVerdict input out status.Done
-kept_same laws aim input out inner again from to kept none short short_out has has_out within = record {
+pub kept_same : WholeLaws → (aim : Aim) (limit : ℕ) (input out inner again : List ℕ) (from to : ℕ) (kept : IsKept aim inner again) → aim.reduce ≡ 0 → limit ≤ most_bytes → length input ≤ limit → length out ≤ limit → HasCodestream input from inner
+    → HasCodestream out to again → totals_fault kept.after ≡ None → SameVerdict limit input out status.Done
+kept_same laws aim limit input out inner again from to kept none few short short_out has has_out within = record {
   stream = kept.reads.whole;
   blocks = kept.reads.all;
   accepted = record { within = short; from = from; inner = inner; has = has; reads = kept.reads.reads };
@@ -86,14 +86,14 @@ kept_same laws aim input out inner again from to kept none short short_out has h
   others = blocks_of aim inner again kept;
   accepted_too = record { within = short_out; from = to; inner = again; has = has_out; reads = record { read = kept.kept.read; totals = within; gathered = kept.kept.gathered } };
   is = one_answer kept.reads.whole (meaning_of kept.reads.whole kept.reads.all) (meaning_of kept.after (blocks_of aim inner again kept))
-      (kept.kept.meaning ∙ whole_meaning laws aim.reduce inner kept.before kept.blocks (inner_short input inner from has short) none kept.reads);
+      (kept.kept.meaning ∙ whole_meaning laws aim.reduce inner kept.before kept.blocks (inner_short most_bytes input inner from has (omega (arith, short, few))) none kept.reads);
 }
 
 -- ---- two files that were written of an input
 -- what is left of an input without as many resolutions
-pub kept_both : Laws → (aim more : Aim) (input first second one two : List ℕ) (at to : ℕ) (kept : IsKept aim input one) (again : IsKept more input two) → aim.reduce ≡ more.reduce → length input ≤ most_bytes
-    → length first ≤ most_bytes → length second ≤ most_bytes → HasCodestream first at one → HasCodestream second to two → totals_fault kept.after ≡ None → totals_fault again.after ≡ None → SameVerdict first second status.Done
-kept_both laws aim more input first second one two at to kept again as_many short short_first short_second has has_too within within_too =
+pub kept_both : Laws → (aim more : Aim) (limit : ℕ) (input first second one two : List ℕ) (at to : ℕ) (kept : IsKept aim input one) (again : IsKept more input two) → aim.reduce ≡ more.reduce → length input ≤ most_bytes
+    → length first ≤ limit → length second ≤ limit → HasCodestream first at one → HasCodestream second to two → totals_fault kept.after ≡ None → totals_fault again.after ≡ None → SameVerdict limit first second status.Done
+kept_both laws aim more limit input first second one two at to kept again as_many short short_first short_second has has_too within within_too =
     let other : ReadsLeft aim.reduce input again.before again.blocks = subst (λ (d : ℕ). ReadsLeft d input again.before again.blocks) (sym as_many) again.reads in
     let left = one_left laws aim.reduce input kept.before again.before kept.blocks again.blocks short kept.reads other in
     let means : meaning_of again.before again.blocks ≡ meaning_of kept.before kept.blocks =

@@ -6,7 +6,7 @@ use Rattle.jx_cli.specs.Words.{Text}
 use Rattle.jx_transcode.specs.Aims.{Aim}
 use Rattle.jx_transcode.specs.declared.status.Status.{Status}
 use Rattle.jx_transcode.specs.declared.status.Status.TheVariants as status
-use Rattle.jx_transcode.specs.Outcome.{IsBegun, IsCutShort, IsMade, IsRefused, IsStopped, IsStoppedAt, IsStoppedByBlock, IsUnbegun, IsUnfinished, IsUntouched, Leaves, LeavesBegun, most_bytes}
+use Rattle.jx_transcode.specs.Outcome.{IsBegun, IsCutShort, IsMade, IsRefused, IsStopped, IsStoppedAt, IsStoppedByBlock, IsUnbegun, IsUnfinished, IsUntouched, Leaves, LeavesBegun}
 
 pub untouched_twice : (a b c : Meaning) → IsUntouched a b → IsUntouched b c → IsUntouched a c
 untouched_twice a b c first next = record {
@@ -90,8 +90,8 @@ whole (Some bytes) read = bytes
 whole None read = read
 
 -- the bytes read are its front
-abbrev pub IsFront : Option (List ℕ) → List ℕ → Type 0
-IsFront told read = IfSome told (λ bytes. read ≡ take (most_bytes + 1) bytes)
+abbrev pub IsFront : ℕ → Option (List ℕ) → List ℕ → Type 0
+IsFront limit told read = IfSome told (λ bytes. read ≡ take (limit + 1) bytes)
 
 pub told_whole : (told : Option (List ℕ)) (read : List ℕ) → IfSome told (λ bytes. whole told read ≡ bytes)
 unfolding whole
@@ -99,15 +99,15 @@ told_whole (Some bytes) read = refl
 told_whole None read = tt
 
 -- a short front is the whole
-pub short_told : (told : Option (List ℕ)) (read : List ℕ) → IsFront told read → length read ≤ most_bytes → IfSome told (λ bytes. read ≡ bytes)
-short_told (Some bytes) read front short =
-    let counted : length read ≡ min (most_bytes + 1) (length bytes) = ap length front ∙ length-take (most_bytes + 1) bytes in
-    front ∙ take_all (most_bytes + 1) bytes (omega (arith, counted, short))
-short_told None read front short = tt
+pub short_told : (limit : ℕ) (told : Option (List ℕ)) (read : List ℕ) → IsFront limit told read → length read ≤ limit → IfSome told (λ bytes. read ≡ bytes)
+short_told limit (Some bytes) read front short =
+    let counted : length read ≡ min (limit + 1) (length bytes) = ap length front ∙ length-take (limit + 1) bytes in
+    front ∙ take_all (limit + 1) bytes (omega (arith, counted, short))
+short_told limit None read front short = tt
 
-pub long_whole : (told : Option (List ℕ)) (read : List ℕ) → IsFront told read → most_bytes < length read → most_bytes < length (whole told read)
+pub long_whole : (limit : ℕ) (told : Option (List ℕ)) (read : List ℕ) → IsFront limit told read → limit < length read → limit < length (whole told read)
 unfolding whole
-long_whole (Some bytes) read front long =
-    let counted : length read ≡ min (most_bytes + 1) (length bytes) = ap length front ∙ length-take (most_bytes + 1) bytes in
+long_whole limit (Some bytes) read front long =
+    let counted : length read ≡ min (limit + 1) (length bytes) = ap length front ∙ length-take (limit + 1) bytes in
     omega (arith, counted, long)
-long_whole None read front long = long
+long_whole limit None read front long = long

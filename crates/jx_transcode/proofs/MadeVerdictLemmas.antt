@@ -3,6 +3,7 @@
 use Rattle.std.proofs.Common.{◌≡◌, ◌⊎◌, ◌≤◌, ◌<◌, ◌^◌, ℕ, List, length, All, inl, inr, refl, sym, subst, arith, Option, None, Some, IfSome}
 use Rattle.std.specs.Prelude.{slice_get}
 use Rattle.std.proofs.lemmas.Option.{get_or_from_slice_get, slice_get_within}
+use Rattle.jx_base.specs.Limits.{most_bytes}
 use Rattle.jx_base.specs.declared.pieces.Block.{Block}
 use Rattle.jx_codestream.specs.declared.Stream.{Stream}
 use Rattle.jx_codestream.specs.declared.faults.StreamFault.TheVariants as fault
@@ -23,7 +24,7 @@ use Rattle.jx_cli.specs.MakeWords.{Make, MayBeMade}
 use Rattle.jx_transcode.specs.Aims.{Aim, MayBeAimed, rule_in}
 use Rattle.jx_transcode.specs.MadeVerdict.{HasNoRule}
 use Rattle.jx_transcode.specs.MakeRun.{aim_made, input_of, wanted_made}
-use Rattle.jx_transcode.specs.Outcome.{Verdict, most_bytes}
+use Rattle.jx_transcode.specs.Outcome.{Verdict}
 use Rattle.jx_transcode.specs.Rewritten.{IsBad, IsIrreducible, IsTooLongAt, IsUnplanned, Reads, ReadsLeft}
 use Rattle.jx_rounds.specs.Tiles.{IsWrongBlock}
 use Rattle.jx_transcode.specs.declared.status.Status.TheVariants as status
@@ -89,17 +90,17 @@ module _ (laws : Laws) (law : AllAccepted) (made_laws : MadeLaws) (whole_laws : 
     where
       by : ((number ≡ 7) × IsTooLongAt aim (input_of m) place) ⊎ (IsUnplanned aim (input_of m) (unplanned.Choice number place) ⊎ IsIrreducible 0 (input_of m) number place) → (number ≡ 7) ⊎ ((number ≡ 6) × (place ≡ 0) × HasNoRule aim (input_of m))
       by (inl long) = inl long.0
-      by (inr (inr is)) = absurd (never_irreducible number place verdict.0 is)
+      by (inr (inr is)) = absurd (never_irreducible number place small is)
       by (inr (inl is)) =
-          let lacks = without_rule (unplanned.Choice number place) verdict.0 aimed (λ e. cc) is in
+          let lacks = without_rule (unplanned.Choice number place) small aimed (λ e. cc) is in
           inr (choice_number number place lacks.1, choice_place number place lacks.1, lacks.0)
 
   pub no_limit : (number found : ℕ) → MayBeAimed aim → Verdict aim (input_of m) (status.Limit number found) → ⊥
-  no_limit number found aimed (inl (inl long)) = absurd (omega (arith, long.0, small))
+  no_limit number found aimed (inl (inl long)) = absurd (omega (arith, long.0, law.short m.seed m.width m.height sizes))
   no_limit number found aimed (inl (inr passed)) =
       let is : IsAccepted (input_of m) made = accepted in
       reads_on laws (input_of m) made is.blocks (fault.Limit number found) small (record { read = is.read; totals = is.totals; gathered = is.gathered }) passed.1
-  no_limit number found aimed (inr over) = absurd (let lacks = without_rule (unplanned.Limit number found) over.0 aimed (λ e. cc) over.1 in let e = lacks.1 in cc)
+  no_limit number found aimed (inr over) = absurd (let lacks = without_rule (unplanned.Limit number found) small aimed (λ e. cc) over.1 in let e = lacks.1 in cc)
 
   plain : (s : Stream) (blocks : List Block) → length (input_of m) ≤ most_bytes → Reads (input_of m) s blocks → All IsPlain blocks
   plain s blocks short reads =
@@ -114,4 +115,4 @@ module _ (laws : Laws) (law : AllAccepted) (made_laws : MadeLaws) (whole_laws : 
   pub no_block : (number : ℕ) → Verdict aim (input_of m) (status.Block number) → ⊥
   no_block number verdict =
       let bad : IsBad aim (input_of m) number = verdict.1 in
-      right bad.blocks number (slice_get bad.blocks number) (plain bad.stream bad.blocks verdict.0 (reads_of bad.stream bad.blocks verdict.0 bad.reads)) refl bad.is.wrong
+      right bad.blocks number (slice_get bad.blocks number) (plain bad.stream bad.blocks small (reads_of bad.stream bad.blocks small bad.reads)) refl bad.is.wrong

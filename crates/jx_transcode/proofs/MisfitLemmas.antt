@@ -18,7 +18,7 @@ use Rattle.jx_options.specs.Wanted.{Wanted}
 use Rattle.jx_transcode.specs.Filed.{told_of_plan}
 use Rattle.jx_transcode.specs.Jp2Run.{raised}
 use Rattle.jx_transcode.specs.Misfits.{HasTile, IsChoice, IsMisfitBy, IsMisfitOf, IsMisfitOfFile, TellsMisfit}
-use Rattle.jx_transcode.specs.Outcome.{EndsAs, most_bytes}
+use Rattle.jx_transcode.specs.Outcome.{EndsAs}
 use Rattle.jx_transcode.specs.Rewritten.{ReadsLeft}
 use Rattle.jx_transcode.specs.declared.status.Status.{Status}
 use Rattle.jx_transcode.specs.declared.status.Status.TheVariants as status
@@ -90,9 +90,9 @@ caused_tile rule s blocks w e (inr (whole, inl unfit)) = unfit_tile s w.precinct
 caused_tile rule s blocks w e (inr (whole, inr lacks)) = lacking_tile rule s blocks w e lacks
 
 -- ---- from the plan's fault to the status, to that of a JP2 file, and to what the device tells
-pub planned_misfit : (precincts : Option (List ℕ)) (d : ℕ) (input : List ℕ) (stream : Stream) (blocks : List Block) (e : PlanFault) (s : Status) (m : Misfit) → length input ≤ most_bytes → ReadsLeft d input stream blocks → s ≡ told_of_plan e
-    → IsMisfitBy precincts stream e m → IsMisfitOf precincts d input s m
-planned_misfit precincts d input stream blocks (unplanned.Choice number place) s m within left told is = record {
+pub planned_misfit : (precincts : Option (List ℕ)) (d limit : ℕ) (input : List ℕ) (stream : Stream) (blocks : List Block) (e : PlanFault) (s : Status) (m : Misfit) → length input ≤ limit → ReadsLeft d input stream blocks → s ≡ told_of_plan e
+    → IsMisfitBy precincts stream e m → IsMisfitOf precincts d limit input s m
+planned_misfit precincts d limit input stream blocks (unplanned.Choice number place) s m within left told is = record {
   within = within;
   stream = left.whole;
   read = left.reads.read;
@@ -100,24 +100,24 @@ planned_misfit precincts d input stream blocks (unplanned.Choice number place) s
   is = told ∙ ap (λ (n : ℕ). status.Choice n place) is.0;
   first = subst (λ (x : Stream). IsMisfitAt precincts x place m) left.stream is.1;
 }
-planned_misfit precincts d input stream blocks (unplanned.Limit number found) s m within left told is = absurd is
-planned_misfit precincts d input stream blocks unplanned.NoMemory s m within left told is = absurd is
+planned_misfit precincts d limit input stream blocks (unplanned.Limit number found) s m within left told is = absurd is
+planned_misfit precincts d limit input stream blocks unplanned.NoMemory s m within left told is = absurd is
 
-pub raised_misfit : (precincts : Option (List ℕ)) (d from : ℕ) (inner input : List ℕ) (boxed : Boxed) (s : Status) (m : Misfit) → inner ≡ content input boxed → IsMisfitOf precincts d inner s m
-    → IsMisfitOf precincts d (content input boxed) (raised from s) m
-raised_misfit precincts d from inner input boxed s m same is = subst (λ (b : List ℕ). IsMisfitOf precincts d b (raised from s) m) same
+pub raised_misfit : (precincts : Option (List ℕ)) (d limit from : ℕ) (inner input : List ℕ) (boxed : Boxed) (s : Status) (m : Misfit) → inner ≡ content input boxed → IsMisfitOf precincts d limit inner s m
+    → IsMisfitOf precincts d limit (content input boxed) (raised from s) m
+raised_misfit precincts d limit from inner input boxed s m same is = subst (λ (b : List ℕ). IsMisfitOf precincts d limit b (raised from s) m) same
     (record { within = is.within; stream = is.stream; read = is.read; tile = is.tile; is = ap (raised from) is.is; first = is.first })
 
-pub misfit_within : (precincts : Option (List ℕ)) (d : ℕ) (input : List ℕ) (s : Status) (m : Misfit) → IsMisfitOfFile precincts d input s m → length input ≤ most_bytes
-misfit_within precincts d input s m (inl bare) = bare.1.within
-misfit_within precincts d input s m (inr jp2) = jp2.1.0
+pub misfit_within : (precincts : Option (List ℕ)) (d limit : ℕ) (input : List ℕ) (s : Status) (m : Misfit) → IsMisfitOfFile precincts d limit input s m → length input ≤ limit
+misfit_within precincts d limit input s m (inl bare) = bare.1.within
+misfit_within precincts d limit input s m (inr jp2) = jp2.1.0
 
-pub misfit_told : (request : Request) (wanted : Wanted) (d : ℕ) (read : List ℕ) (s late : Status) (old : Meaning) (told : Option Misfit) (m : Misfit) → IsFront (joined (old.holds request.from)) read → wanted ≡ request.wanted → d ≡ request.reduce
-    → IfSome told (λ m. IsMisfitOfFile wanted.precincts d read s m) → (told ≡ Some m) × (late ≡ s) → TellsMisfit request m late old
-misfit_told request wanted d read s late old told m front same many is now =
-    let here : IsMisfitOfFile wanted.precincts d read s m = subst (λ o. IfSome o (λ m. IsMisfitOfFile wanted.precincts d read s m)) now.0 is in
+pub misfit_told : (request : Request) (wanted : Wanted) (d limit : ℕ) (read : List ℕ) (s late : Status) (old : Meaning) (told : Option Misfit) (m : Misfit) → IsFront limit (joined (old.holds request.from)) read → wanted ≡ request.wanted → d ≡ request.reduce → limit ≡ request.limit
+    → IfSome told (λ m. IsMisfitOfFile wanted.precincts d limit read s m) → (told ≡ Some m) × (late ≡ s) → TellsMisfit request m late old
+misfit_told request wanted d limit read s late old told m front same many most is now =
+    let here : IsMisfitOfFile wanted.precincts d limit read s m = subst (λ o. IfSome o (λ m. IsMisfitOfFile wanted.precincts d limit read s m)) now.0 is in
     record {
       input = read;
-      told = short_told (joined (old.holds request.from)) read front (misfit_within wanted.precincts d read s m here);
-      is = rw (now.1, ← same, ← many) here;
+      told = short_told limit (joined (old.holds request.from)) read front (misfit_within wanted.precincts d limit read s m here);
+      is = rw (now.1, ← same, ← many, ← most) here;
     }

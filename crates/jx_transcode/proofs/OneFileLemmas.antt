@@ -1,5 +1,6 @@
 -- An input has one output.
-use Rattle.std.proofs.Common.{◌≡◌, ◌≤◌, ◌∙◌, ℕ, List, length, inl, inr, ap, sym, subst, refl}
+use Rattle.std.proofs.Common.{◌≡◌, ◌≤◌, ◌∙◌, ℕ, List, length, inl, inr, ap, sym, subst, refl, arith}
+use Rattle.jx_base.specs.Limits.{most_bytes}
 use Rattle.jx_base.specs.declared.pieces.Block.{Block}
 use Rattle.jx_codestream.specs.declared.Stream.{Stream}
 use Rattle.jx_cli.specs.Words.{Text}
@@ -15,7 +16,6 @@ use Rattle.jx_rounds.specs.declared.tape.TapeEntry.{TapeEntry}
 use Rattle.jx_tier2_writer.specs.TileParts.{IsOutput}
 use Rattle.jx_transcode.specs.Aims.{Aim}
 use Rattle.jx_transcode.specs.Jp2Run.{EndsAround, LeavesAround, file_in}
-use Rattle.jx_transcode.specs.Outcome.{most_bytes}
 use Rattle.jx_transcode.specs.Rewritten.{IsRewritten, headers_of}
 use Rattle.jx_transcode.specs.TranscodeRun.{EndsBare}
 use Rattle.jx_transcode.specs.declared.status.Status.TheVariants as status
@@ -34,11 +34,11 @@ module _ (laws : Laws) (one : OneOutput) (aim : Aim) (input : List ℕ) (short :
       one aim.wanted.marks (headers_of aim.wanted x.can.by x.stream x.blocks) (blocks_written aim.wanted x.can.by x.stream x.blocks) out other x.output again
 
 -- ---- two runs
-module _ (laws : Laws) (one : OneOutput) (aim : Aim) where
+module _ (laws : Laws) (one : OneOutput) (aim : Aim) (few : aim.limit ≤ most_bytes) where
   pub same_runs : (name again : Text) (work other : Work) (input : List ℕ) (blocks bytes blocks2 bytes2 : ℕ) (tape tape2 : List TapeEntry) (old new old2 new2 : Meaning)
       → (x : EndsBare name work aim input status.Done blocks bytes tape old new) → (y : EndsBare again other aim input status.Done blocks2 bytes2 tape2 old2 new2) → x.leaves.out ≡ y.leaves.out
   same_runs name again work other input blocks bytes blocks2 bytes2 tape tape2 old new old2 new2 x y =
-      one_file laws one aim input (x.verdict tt).0 x.leaves.out y.leaves.out x.leaves.is y.leaves.is
+      one_file laws one aim input (omega (arith, (x.verdict tt).0, few)) x.leaves.out y.leaves.out x.leaves.is y.leaves.is
 
   rewritten_in : (name : Text) (kind : FormChoice) (input : List ℕ) (boxed : Boxed) (out : List ℕ) (blocks bytes : ℕ) (old new : Meaning) → LeavesAround name kind aim input boxed out status.Done blocks bytes old new
       → IsRewritten aim (content input boxed) out
@@ -53,5 +53,5 @@ module _ (laws : Laws) (one : OneOutput) (aim : Aim) where
       let same : boxed2 ≡ boxed = codestream input boxed2 boxed y.found x.found in
       let first : IsRewritten aim (content input boxed) x.out = rewritten_in name kind input boxed x.out blocks bytes old new x.leaves in
       let second : IsRewritten aim (content input boxed) y.out = subst (λ (b : Boxed). IsRewritten aim (content input b) y.out) same (rewritten_in again kind input boxed2 y.out blocks2 bytes2 old2 new2 y.leaves) in
-      ap (λ (out : List ℕ). file_in kind input boxed out) (one_file laws one aim (content input boxed) (x.verdict tt).0 x.out y.out first second)
+      ap (λ (out : List ℕ). file_in kind input boxed out) (one_file laws one aim (content input boxed) (omega (arith, (x.verdict tt).0, few)) x.out y.out first second)
       ∙ ap (λ (b : Boxed). file_in kind input b y.out) (sym same)

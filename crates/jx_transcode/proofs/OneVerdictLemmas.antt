@@ -1,6 +1,7 @@
 -- An input has at most one verdict.
 use Rattle.std.proofs.Common.{◌≡◌, ◌⊎◌, ◌≤◌, ◌<◌, ◌^◌, ◌∙◌, inl, inr, refl, sym, subst, ap, arith, List, ℕ, Option, None, Some, length}
 use Rattle.std.proofs.lemmas.Bool.{cases_lt}
+use Rattle.jx_base.specs.Limits.{most_bytes}
 use Rattle.jx_base.specs.declared.pieces.Block.{Block}
 use Rattle.jx_codestream.specs.declared.faults.StreamFault.{StreamFault}
 use Rattle.jx_codestream.specs.declared.faults.StreamFault.TheVariants as fault
@@ -27,7 +28,7 @@ use Rattle.jx_transcode.specs.declared.status.Status.{Status}
 use Rattle.jx_transcode.specs.declared.status.Status.TheVariants as status
 use Rattle.jx_transcode.specs.Aims.{Aim, rule_in}
 use Rattle.jx_transcode.specs.Judged.{BreaksTiles}
-use Rattle.jx_transcode.specs.Outcome.{Verdict, most_bytes}
+use Rattle.jx_transcode.specs.Outcome.{Verdict}
 use Rattle.jx_transcode.specs.Rewritten.{CanBePlanned, IsBad, IsIrreducible, IsLong, IsRewritten, IsSpoiled, IsTooLongAt, IsUnplanned, Reads, ReadsLeft, headers_of}
 use Rattle.jx_rounds.specs.Tiles.{IsRight, IsWrongAt}
 use Rattle.jx_rounds.proofs.FrontLemmas.{tiles_stay}
@@ -54,8 +55,7 @@ tile_once : Laws → (input : List ℕ) (f g : StreamFault) → length input ≤
 tile_once laws input f g short x y =
     let one : y.stream ≡ x.stream = laws.one_stream input y.stream x.stream y.read.spelled x.read.spelled in
     let broken : IsBroken input x.stream g = subst (λ (s : Stream). IsBroken input s g) one y.broken in
-    let few : length input ≤ 2 ^ 28 = short in
-    laws.broken input x.stream f g x.read (omega arith) x.broken broken
+    laws.broken input x.stream f g x.read (omega (arith, short)) x.broken broken
 
 stops_once : Laws → (input : List ℕ) (f g : StreamFault) → length input ≤ most_bytes → Stops input f → Stops input g → f ≡ g
 stops_once laws input f g short (inl x) (inl y) = laws.first input f g x y
@@ -69,15 +69,13 @@ reads_on laws input s blocks f short reads (inl first) = laws.read input f s fir
 reads_on laws input s blocks f short reads (inr breaks) =
     let one : breaks.stream ≡ s = laws.one_stream input breaks.stream s breaks.read.spelled reads.read.spelled in
     let broken : IsBroken input s f = subst (λ (x : Stream). IsBroken input x f) one breaks.broken in
-    let few : length input ≤ 2 ^ 28 = short in
-    laws.gathered input s blocks f reads.read (omega arith) reads.totals reads.gathered broken
+    laws.gathered input s blocks f reads.read (omega (arith, short)) reads.totals reads.gathered broken
 
 pub one_reading : Laws → (input : List ℕ) (s t : Stream) (blocks others : List Block) → length input ≤ most_bytes → Reads input s blocks → Reads input t others → (t ≡ s) × (others ≡ blocks)
 one_reading laws input s t blocks others short reads again =
     let one : t ≡ s = laws.one_stream input t s again.read.spelled reads.read.spelled in
     let same : IsGathered input s others = subst (λ (x : Stream). IsGathered input x others) one again.gathered in
-    let few : length input ≤ 2 ^ 28 = short in
-    (one, laws.one_blocks input s others blocks reads.read (omega arith) reads.totals same reads.gathered)
+    (one, laws.one_blocks input s others blocks reads.read (omega (arith, short)) reads.totals same reads.gathered)
 
 -- so does what is left of it
 pub left_on : Laws → (aim : Aim) (input : List ℕ) (s : Stream) (blocks : List Block) (f : StreamFault) → length input ≤ most_bytes → ReadsLeft aim.reduce input s blocks → Stops input f → ⊥
@@ -268,49 +266,53 @@ module _ (laws : Laws) (aim : Aim) (input : List ℕ) (short : length input ≤ 
   same_irreducible : (n p k q : ℕ) → IsIrreducible aim.reduce input n p → IsIrreducible aim.reduce input k q → status.Choice n p ≡ status.Choice k q
   same_irreducible n p k q x y = one_choice (first_choice aim.reduce x.stream) n p k q x.cause (choice_here x.stream x.blocks k q x.reads y)
 
-module _ (laws : Laws) (aim : Aim) (input : List ℕ) where
+module _ (laws : Laws) (aim : Aim) (input : List ℕ) (few : aim.limit ≤ most_bytes) where
+  -- the laws below speak of as many bytes as words can ask for
+  near : length input ≤ aim.limit → length input ≤ most_bytes
+  near within = omega (arith, within, few)
+
   -- what is read whole, and isn't kept from a plan, has no limit
-  never_limit : (s : Stream) (blocks : List Block) (n q : ℕ) → length input ≤ most_bytes → ReadsLeft aim.reduce input s blocks → CanBePlanned aim s blocks → Verdict aim input (status.Limit n q) → ⊥
+  never_limit : (s : Stream) (blocks : List Block) (n q : ℕ) → length input ≤ aim.limit → ReadsLeft aim.reduce input s blocks → CanBePlanned aim s blocks → Verdict aim input (status.Limit n q) → ⊥
   never_limit s blocks n q short reads can (inl (inl x)) = omega (arith, x.0, short)
-  never_limit s blocks n q short reads can (inl (inr x)) = left_on laws aim input s blocks (fault.Limit n q) short reads x.1
-  never_limit s blocks n q short reads can (inr x) = never_caused laws aim input short s blocks (unplanned.Limit n q) (λ e. cc) reads can x.1
+  never_limit s blocks n q short reads can (inl (inr x)) = left_on laws aim input s blocks (fault.Limit n q) (near short) reads x.1
+  never_limit s blocks n q short reads can (inr x) = never_caused laws aim input (near short) s blocks (unplanned.Limit n q) (λ e. cc) reads can x.1
 
   two_limits : (n p k q : ℕ) → Verdict aim input (status.Limit n p) → Verdict aim input (status.Limit k q) → status.Limit n p ≡ status.Limit k q
   two_limits n p k q (inl (inl x)) (inl (inl y)) = rw (x.1, x.2, y.1, y.2) refl
   two_limits n p k q (inl (inl x)) (inl (inr y)) = absurd (omega (arith, x.0, y.0))
   two_limits n p k q (inl (inl x)) (inr y) = absurd (omega (arith, x.0, y.0))
   two_limits n p k q (inl (inr x)) (inl (inl y)) = absurd (omega (arith, x.0, y.0))
-  two_limits n p k q (inl (inr x)) (inl (inr y)) = ap told (stops_once laws input (fault.Limit n p) (fault.Limit k q) x.0 x.1 y.1)
-  two_limits n p k q (inl (inr x)) (inr y) = absurd (left_on laws aim input y.1.stream y.1.blocks (fault.Limit n p) y.0 y.1.reads x.1)
+  two_limits n p k q (inl (inr x)) (inl (inr y)) = ap told (stops_once laws input (fault.Limit n p) (fault.Limit k q) (near x.0) x.1 y.1)
+  two_limits n p k q (inl (inr x)) (inr y) = absurd (left_on laws aim input y.1.stream y.1.blocks (fault.Limit n p) (near y.0) y.1.reads x.1)
   two_limits n p k q (inr x) (inl (inl y)) = absurd (omega (arith, x.0, y.0))
-  two_limits n p k q (inr x) (inl (inr y)) = absurd (left_on laws aim input x.1.stream x.1.blocks (fault.Limit k q) x.0 x.1.reads y.1)
-  two_limits n p k q (inr x) (inr y) = ap told_of (same_cause laws aim input x.0 (unplanned.Limit n p) (unplanned.Limit k q) (λ e. cc) (λ e. cc) x.1 y.1)
+  two_limits n p k q (inr x) (inl (inr y)) = absurd (left_on laws aim input x.1.stream x.1.blocks (fault.Limit k q) (near x.0) x.1.reads y.1)
+  two_limits n p k q (inr x) (inr y) = ap told_of (same_cause laws aim input (near x.0) (unplanned.Limit n p) (unplanned.Limit k q) (λ e. cc) (λ e. cc) x.1 y.1)
 
   rule_and_limit : (n p k q : ℕ) → Verdict aim input (status.Rule n p) → Verdict aim input (status.Limit k q) → ⊥
   rule_and_limit n p k q x (inl (inl y)) = omega (arith, y.0, x.0)
-  rule_and_limit n p k q x (inl (inr y)) = let e : fault.Rule n p ≡ fault.Limit k q = stops_once laws input (fault.Rule n p) (fault.Limit k q) x.0 x.1 y.1 in cc
-  rule_and_limit n p k q x (inr y) = left_on laws aim input y.1.stream y.1.blocks (fault.Rule n p) y.0 y.1.reads x.1
+  rule_and_limit n p k q x (inl (inr y)) = let e : fault.Rule n p ≡ fault.Limit k q = stops_once laws input (fault.Rule n p) (fault.Limit k q) (near x.0) x.1 y.1 in cc
+  rule_and_limit n p k q x (inr y) = left_on laws aim input y.1.stream y.1.blocks (fault.Rule n p) (near y.0) y.1.reads x.1
 
   done_and_choice : (n p : ℕ) → Verdict aim input status.Done → Verdict aim input (status.Choice n p) → ⊥
-  done_and_choice n p x (short, inl y) = fine_or_long laws aim input short x.1 p x.2 y.1
-  done_and_choice n p x (short, inr (inl y)) = never_caused laws aim input short x.2.stream x.2.blocks (unplanned.Choice n p) (λ e. cc) x.2.reads x.2.can y
-  done_and_choice n p x (short, inr (inr y)) = never_irreducible laws aim input short x.2.stream x.2.blocks n p x.2.reads y
+  done_and_choice n p x (short, inl y) = fine_or_long laws aim input (near short) x.1 p x.2 y.1
+  done_and_choice n p x (short, inr (inl y)) = never_caused laws aim input (near short) x.2.stream x.2.blocks (unplanned.Choice n p) (λ e. cc) x.2.reads x.2.can y
+  done_and_choice n p x (short, inr (inr y)) = never_irreducible laws aim input (near short) x.2.stream x.2.blocks n p x.2.reads y
 
   rule_and_choice : (n p k q : ℕ) → Verdict aim input (status.Rule n p) → Verdict aim input (status.Choice k q) → ⊥
-  rule_and_choice n p k q x (short, inl y) = left_on laws aim input y.1.stream y.1.blocks (fault.Rule n p) short y.1.reads x.1
-  rule_and_choice n p k q x (short, inr (inl y)) = left_on laws aim input y.stream y.blocks (fault.Rule n p) short y.reads x.1
-  rule_and_choice n p k q x (short, inr (inr y)) = reads_on laws input y.stream y.blocks (fault.Rule n p) short y.reads x.1
+  rule_and_choice n p k q x (short, inl y) = left_on laws aim input y.1.stream y.1.blocks (fault.Rule n p) (near short) y.1.reads x.1
+  rule_and_choice n p k q x (short, inr (inl y)) = left_on laws aim input y.stream y.blocks (fault.Rule n p) (near short) y.reads x.1
+  rule_and_choice n p k q x (short, inr (inr y)) = reads_on laws input y.stream y.blocks (fault.Rule n p) (near short) y.reads x.1
 
-  unplanned_and_limit : (n p k q : ℕ) → length input ≤ most_bytes → IsUnplanned aim input (unplanned.Choice n p) → Verdict aim input (status.Limit k q) → ⊥
+  unplanned_and_limit : (n p k q : ℕ) → length input ≤ aim.limit → IsUnplanned aim input (unplanned.Choice n p) → Verdict aim input (status.Limit k q) → ⊥
   unplanned_and_limit n p k q short x (inl (inl y)) = omega (arith, y.0, short)
-  unplanned_and_limit n p k q short x (inl (inr y)) = left_on laws aim input x.stream x.blocks (fault.Limit k q) short x.reads y.1
+  unplanned_and_limit n p k q short x (inl (inr y)) = left_on laws aim input x.stream x.blocks (fault.Limit k q) (near short) x.reads y.1
   unplanned_and_limit n p k q short x (inr y) =
-      let e : unplanned.Choice n p ≡ unplanned.Limit k q = same_cause laws aim input short (unplanned.Choice n p) (unplanned.Limit k q) (λ e. cc) (λ e. cc) x y.1 in cc
+      let e : unplanned.Choice n p ≡ unplanned.Limit k q = same_cause laws aim input (near short) (unplanned.Choice n p) (unplanned.Limit k q) (λ e. cc) (λ e. cc) x y.1 in cc
 
-  irreducible_and_limit : (n p k q : ℕ) → length input ≤ most_bytes → IsIrreducible aim.reduce input n p → Verdict aim input (status.Limit k q) → ⊥
+  irreducible_and_limit : (n p k q : ℕ) → length input ≤ aim.limit → IsIrreducible aim.reduce input n p → Verdict aim input (status.Limit k q) → ⊥
   irreducible_and_limit n p k q short x (inl (inl y)) = omega (arith, y.0, short)
-  irreducible_and_limit n p k q short x (inl (inr y)) = reads_on laws input x.stream x.blocks (fault.Limit k q) short x.reads y.1
-  irreducible_and_limit n p k q short x (inr y) = never_irreducible laws aim input short y.1.stream y.1.blocks n p y.1.reads x
+  irreducible_and_limit n p k q short x (inl (inr y)) = reads_on laws input x.stream x.blocks (fault.Limit k q) (near short) x.reads y.1
+  irreducible_and_limit n p k q short x (inr y) = never_irreducible laws aim input (near short) y.1.stream y.1.blocks n p y.1.reads x
 
   choice_and_limit : (n p k q : ℕ) → Verdict aim input (status.Choice n p) → Verdict aim input (status.Limit k q) → ⊥
   choice_and_limit n p k q (short, inl x) y = never_limit x.1.stream x.1.blocks k q short x.1.reads x.1.can y
@@ -318,33 +320,33 @@ module _ (laws : Laws) (aim : Aim) (input : List ℕ) where
   choice_and_limit n p k q (short, inr (inr x)) y = irreducible_and_limit n p k q short x y
 
   two_choices : (n p k q : ℕ) → Verdict aim input (status.Choice n p) → Verdict aim input (status.Choice k q) → status.Choice n p ≡ status.Choice k q
-  two_choices n p k q (short, inl x) (again, inl y) = rw (x.0, y.0, same_long laws aim input short p q x.1 y.1) refl
-  two_choices n p k q (short, inl x) (again, inr (inl y)) = absurd (never_caused laws aim input short x.1.stream x.1.blocks (unplanned.Choice k q) (λ e. cc) x.1.reads x.1.can y)
-  two_choices n p k q (short, inl x) (again, inr (inr y)) = absurd (never_irreducible laws aim input short x.1.stream x.1.blocks k q x.1.reads y)
-  two_choices n p k q (short, inr (inl x)) (again, inl y) = absurd (never_caused laws aim input short y.1.stream y.1.blocks (unplanned.Choice n p) (λ e. cc) y.1.reads y.1.can x)
-  two_choices n p k q (short, inr (inl x)) (again, inr (inl y)) = ap told_of (same_cause laws aim input short (unplanned.Choice n p) (unplanned.Choice k q) (λ e. cc) (λ e. cc) x y)
-  two_choices n p k q (short, inr (inl x)) (again, inr (inr y)) = absurd (never_irreducible laws aim input short x.stream x.blocks k q x.reads y)
-  two_choices n p k q (short, inr (inr x)) (again, inl y) = absurd (never_irreducible laws aim input short y.1.stream y.1.blocks n p y.1.reads x)
-  two_choices n p k q (short, inr (inr x)) (again, inr (inl y)) = absurd (never_irreducible laws aim input short y.stream y.blocks n p y.reads x)
-  two_choices n p k q (short, inr (inr x)) (again, inr (inr y)) = same_irreducible laws aim input short n p k q x y
+  two_choices n p k q (short, inl x) (again, inl y) = rw (x.0, y.0, same_long laws aim input (near short) p q x.1 y.1) refl
+  two_choices n p k q (short, inl x) (again, inr (inl y)) = absurd (never_caused laws aim input (near short) x.1.stream x.1.blocks (unplanned.Choice k q) (λ e. cc) x.1.reads x.1.can y)
+  two_choices n p k q (short, inl x) (again, inr (inr y)) = absurd (never_irreducible laws aim input (near short) x.1.stream x.1.blocks k q x.1.reads y)
+  two_choices n p k q (short, inr (inl x)) (again, inl y) = absurd (never_caused laws aim input (near short) y.1.stream y.1.blocks (unplanned.Choice n p) (λ e. cc) y.1.reads y.1.can x)
+  two_choices n p k q (short, inr (inl x)) (again, inr (inl y)) = ap told_of (same_cause laws aim input (near short) (unplanned.Choice n p) (unplanned.Choice k q) (λ e. cc) (λ e. cc) x y)
+  two_choices n p k q (short, inr (inl x)) (again, inr (inr y)) = absurd (never_irreducible laws aim input (near short) x.stream x.blocks k q x.reads y)
+  two_choices n p k q (short, inr (inr x)) (again, inl y) = absurd (never_irreducible laws aim input (near short) y.1.stream y.1.blocks n p y.1.reads x)
+  two_choices n p k q (short, inr (inr x)) (again, inr (inl y)) = absurd (never_irreducible laws aim input (near short) y.stream y.blocks n p y.reads x)
+  two_choices n p k q (short, inr (inr x)) (again, inr (inr y)) = same_irreducible laws aim input (near short) n p k q x y
 
   bad_and_choice : (k n p : ℕ) → Verdict aim input (status.Block k) → Verdict aim input (status.Choice n p) → ⊥
-  bad_and_choice k n p x (short, inl y) = one_spoils laws aim input short k p x.1 y.1
-  bad_and_choice k n p x (short, inr (inl y)) = never_caused laws aim input short x.1.stream x.1.blocks (unplanned.Choice n p) (λ e. cc) x.1.reads x.1.can y
-  bad_and_choice k n p x (short, inr (inr y)) = never_irreducible laws aim input short x.1.stream x.1.blocks n p x.1.reads y
+  bad_and_choice k n p x (short, inl y) = one_spoils laws aim input (near short) k p x.1 y.1
+  bad_and_choice k n p x (short, inr (inl y)) = never_caused laws aim input (near short) x.1.stream x.1.blocks (unplanned.Choice n p) (λ e. cc) x.1.reads x.1.can y
+  bad_and_choice k n p x (short, inr (inr y)) = never_irreducible laws aim input (near short) x.1.stream x.1.blocks n p x.1.reads y
 
   bad_and_rule : (k n p : ℕ) → Verdict aim input (status.Block k) → Verdict aim input (status.Rule n p) → ⊥
-  bad_and_rule k n p x y = left_on laws aim input x.1.stream x.1.blocks (fault.Rule n p) x.0 x.1.reads y.1
+  bad_and_rule k n p x y = left_on laws aim input x.1.stream x.1.blocks (fault.Rule n p) (near x.0) x.1.reads y.1
 
   bad_and_limit : (k n p : ℕ) → Verdict aim input (status.Block k) → Verdict aim input (status.Limit n p) → ⊥
   bad_and_limit k n p x y = never_limit x.1.stream x.1.blocks n p x.0 x.1.reads x.1.can y
 
   bad_and_done : (k : ℕ) → Verdict aim input (status.Block k) → Verdict aim input status.Done → ⊥
-  bad_and_done k x y = fine_or_bad laws aim input x.0 y.1 k y.2 x.1
+  bad_and_done k x y = fine_or_bad laws aim input (near x.0) y.1 k y.2 x.1
 
   pub one_verdict : (s t : Status) → Verdict aim input s → Verdict aim input t → s ≡ t
   one_verdict status.Done status.Done x y = refl
-  one_verdict status.Done (status.Rule n q) x y = absurd (left_on laws aim input x.2.stream x.2.blocks (fault.Rule n q) x.0 x.2.reads y.1)
+  one_verdict status.Done (status.Rule n q) x y = absurd (left_on laws aim input x.2.stream x.2.blocks (fault.Rule n q) (near x.0) x.2.reads y.1)
   one_verdict status.Done (status.Limit n q) x y = absurd (never_limit x.2.stream x.2.blocks n q x.0 x.2.reads x.2.can y)
   one_verdict status.Done (status.Choice n q) x y = absurd (done_and_choice n q x y)
   one_verdict status.Done (status.Block k) x y = absurd (bad_and_done k y x)
@@ -353,8 +355,8 @@ module _ (laws : Laws) (aim : Aim) (input : List ℕ) where
   one_verdict status.Done status.ReadFault x y = absurd y
   one_verdict status.Done status.WriteFault x y = absurd y
   one_verdict status.Done status.NoMemory x y = absurd y
-  one_verdict (status.Rule n p) status.Done x y = absurd (left_on laws aim input y.2.stream y.2.blocks (fault.Rule n p) y.0 y.2.reads x.1)
-  one_verdict (status.Rule n p) (status.Rule k q) x y = ap told (stops_once laws input (fault.Rule n p) (fault.Rule k q) x.0 x.1 y.1)
+  one_verdict (status.Rule n p) status.Done x y = absurd (left_on laws aim input y.2.stream y.2.blocks (fault.Rule n p) (near y.0) y.2.reads x.1)
+  one_verdict (status.Rule n p) (status.Rule k q) x y = ap told (stops_once laws input (fault.Rule n p) (fault.Rule k q) (near x.0) x.1 y.1)
   one_verdict (status.Rule n p) (status.Limit k q) x y = absurd (rule_and_limit n p k q x y)
   one_verdict (status.Rule n p) (status.Choice k q) x y = absurd (rule_and_choice n p k q x y)
   one_verdict (status.Rule n p) (status.Block k) x y = absurd (bad_and_rule k n p y x)
@@ -387,7 +389,7 @@ module _ (laws : Laws) (aim : Aim) (input : List ℕ) where
   one_verdict (status.Block k) (status.Rule n p) x y = absurd (bad_and_rule k n p x y)
   one_verdict (status.Block k) (status.Limit n p) x y = absurd (bad_and_limit k n p x y)
   one_verdict (status.Block k) (status.Choice n p) x y = absurd (bad_and_choice k n p x y)
-  one_verdict (status.Block k) (status.Block n) x y = rw (same_bad laws aim input x.0 k n x.1 y.1) refl
+  one_verdict (status.Block k) (status.Block n) x y = rw (same_bad laws aim input (near x.0) k n x.1 y.1) refl
   one_verdict (status.Block k) status.Words x y = absurd y
   one_verdict (status.Block k) (status.Unlike how) x y = absurd y
   one_verdict (status.Block k) status.ReadFault x y = absurd y

@@ -1,5 +1,5 @@
 -- Runs on inputs of which a front was read, and with their line said.
-use Rattle.std.proofs.Common.{◌≡◌, ◌⊎◌, ◌<◌, ℕ, List, [], length, take, inl, inr, ap, refl, subst, Option, IfSome, arith}
+use Rattle.std.proofs.Common.{◌≡◌, ◌⊎◌, ◌<◌, ◌+◌, ℕ, List, [], length, inl, inr, refl, subst, Option, IfSome, arith}
 use Rattle.std.proofs.lemmas.Bool.{cases_lt}
 use Rattle.jx_io.specs.Device.{Meaning, joined}
 use Rattle.jx_io.specs.declared.refused.Refused.{Refused}
@@ -9,73 +9,20 @@ use Rattle.jx_options.specs.Wanted.{Wanted}
 use Rattle.jx_transcode.specs.Aims.{Aim}
 use Rattle.jx_transcode.specs.declared.status.Status.{Status}
 use Rattle.jx_transcode.specs.declared.status.Status.TheVariants as status
-use Rattle.jx_transcode.specs.Filed.{IsAnswered, IsUnread, unread_as}
+use Rattle.jx_transcode.specs.Filed.{IsAnswered, IsTooLong, IsUnread, unread_as}
 use Rattle.jx_cli.specs.Words.{Request, Text}
 use Rattle.jx_jp2.specs.Codestream.{IsJp2}
 use Rattle.jx_transcode.specs.Jp2Run.{EndsJp2}
 use Rattle.jx_options.specs.Work.{Work}
 use Rattle.jx_options.specs.declared.FormChoice.{FormChoice}
 use Rattle.jx_rounds.specs.declared.tape.TapeEntry.{TapeEntry}
-use Rattle.jx_transcode.specs.Outcome.{IsCutShort, IsLimited, IsUntouched, IsVerdict, Leaves, Verdict, EndsAtWords, EndsAs, PassesLimit, line_of, most_bytes}
+use Rattle.jx_transcode.specs.Outcome.{IsCutShort, IsUntouched, EndsAtWords, EndsAs, line_of}
 use Rattle.jx_transcode.specs.TranscodeRun.{Ends, EndsOn, aim_of}
 use Rattle.jx_transcode.proofs.DoneLemmas.{undone}
-use Rattle.jx_transcode.proofs.Jp2Lemmas.{jp2_after, jp2_front, jp2_late, jp2_long, jp2_whole}
-use Rattle.jx_transcode.proofs.LeftLemmas.{cut_after, leaves_after, long_whole, short_told, told_whole, whole}
+use Rattle.jx_transcode.proofs.Jp2Lemmas.{jp2_after, jp2_late}
+use Rattle.jx_transcode.proofs.LeftLemmas.{IsFront, cut_after, leaves_after, long_whole, short_told, told_whole, whole}
 use Rattle.jx_transcode.proofs.StatusLemmas.{unread_either}
-use Rattle.jx_transcode.proofs.TapeLemmas.{long_taped, taped_late}
-
-long_limit : (number found : ℕ) (read input : List ℕ) → most_bytes < length read → most_bytes < length input → PassesLimit read number found → PassesLimit input number found
-long_limit number found read input long whole (inl passed) = inl (whole, passed.1, passed.2)
-long_limit number found read input long whole (inr passed) = absurd (omega (arith, passed.0))
-
-limit_one : (aim : Aim) (number found : ℕ) (read : List ℕ) → most_bytes < length read → Verdict aim read (status.Limit number found) → number ≡ 1
-limit_one aim number found read long (inl (inl passed)) = passed.1
-limit_one aim number found read long (inl (inr passed)) = absurd (omega (arith, passed.0))
-limit_one aim number found read long (inr many) = absurd (omega (arith, many.0))
-
--- the verdict on a front that is too long is that on the whole
-long_verdict : (aim : Aim) (s : Status) (read input : List ℕ) → most_bytes < length read → most_bytes < length input → Verdict aim read s → Verdict aim input s
-long_verdict aim status.Done read input long whole verdict = absurd (omega (arith, verdict.0))
-long_verdict aim status.Words read input long whole verdict = absurd verdict
-long_verdict aim (status.Unlike how) read input long whole verdict = absurd verdict
-long_verdict aim (status.Rule number place) read input long whole verdict = absurd (omega (arith, verdict.0))
-long_verdict aim (status.Limit number found) read input long whole (inl verdict) = inl (long_limit number found read input long whole verdict)
-long_verdict aim (status.Limit number found) read input long whole (inr many) = absurd (omega (arith, many.0))
-long_verdict aim (status.Choice number place) read input long whole verdict = absurd (omega (arith, verdict.0))
-long_verdict aim (status.Block number) read input long whole verdict = absurd (omega (arith, verdict.0))
-long_verdict aim status.ReadFault read input long whole verdict = absurd verdict
-long_verdict aim status.WriteFault read input long whole verdict = absurd verdict
-long_verdict aim status.NoMemory read input long whole verdict = absurd verdict
-
-long_cut : (name : Text) (aim : Aim) (read input : List ℕ) (blocks : ℕ) (a b : Meaning) → most_bytes < length read → IsCutShort name aim read blocks a b → IsCutShort name aim input blocks a b
-long_cut name aim read input blocks a b long (inl refused) = inl refused
-long_cut name aim read input blocks a b long (inr (inl over)) = absurd (omega (arith, over.within, long))
-long_cut name aim read input blocks a b long (inr (inr (inl all))) = absurd (omega (arith, all.within, long))
-long_cut name aim read input blocks a b long (inr (inr (inr begun))) = absurd (omega (arith, begun.within, long))
-
-long_limited : (d number blocks : ℕ) (read input : List ℕ) → number ≡ 1 → IsLimited d read number blocks → IsLimited d input number blocks
-long_limited d number blocks read input one (inl many) = absurd (omega (arith, many.0, one))
-long_limited d number blocks read input one (inr few) = inr few
-
-long_leaves : (name : Text) (aim : Aim) (s : Status) (read input : List ℕ) (blocks bytes : ℕ) (a b : Meaning) → most_bytes < length read → most_bytes < length input → (IsVerdict s → Verdict aim read s)
-    → Leaves name aim read s blocks bytes a b → Leaves name aim input s blocks bytes a b
-long_leaves name aim status.Done read input blocks bytes a b long whole verdict leaves = absurd (omega (arith, (verdict tt).0, long))
-long_leaves name aim status.Words read input blocks bytes a b long whole verdict leaves = leaves
-long_leaves name aim (status.Unlike how) read input blocks bytes a b long whole verdict leaves = absurd leaves
-long_leaves name aim (status.Rule number place) read input blocks bytes a b long whole verdict leaves = leaves
-long_leaves name aim (status.Limit number found) read input blocks bytes a b long whole verdict leaves =
-    (long_limited aim.reduce number blocks read input (limit_one aim number found read long (verdict tt)) leaves.0, leaves.1)
-long_leaves name aim (status.Choice number place) read input blocks bytes a b long whole verdict leaves = absurd (omega (arith, (verdict tt).0, long))
-long_leaves name aim (status.Block number) read input blocks bytes a b long whole verdict leaves = absurd (omega (arith, (verdict tt).0, long))
-long_leaves name aim status.ReadFault read input blocks bytes a b long whole verdict leaves = leaves
-long_leaves name aim status.WriteFault read input blocks bytes a b long whole verdict leaves = long_cut name aim read input blocks a b long leaves
-long_leaves name aim status.NoMemory read input blocks bytes a b long whole verdict leaves = long_cut name aim read input blocks a b long leaves
-
--- nothing is done with a front that is too long
-never_done : (aim : Aim) (s : Status) (read : List ℕ) → most_bytes < length read → (IsVerdict s → Verdict aim read s) → s ≡ status.Done → ⊥
-never_done aim s read long verdict done =
-    let is : Verdict aim read status.Done = subst (λ (x : Status). IsVerdict x → Verdict aim read x) done verdict tt in
-    omega (arith, is.0, long)
+use Rattle.jx_transcode.proofs.TapeLemmas.{taped_late}
 
 -- how the files are left by a run over good words, before anything is said; `bytes` is the output's length after Done
 pub record EndsFiles (request : Request) (rule : List ℕ → StreamFacts → Option Rule) (s : Status) (blocks bytes : ℕ) (entries : List TapeEntry) (old new : Meaning) : Type 0 where
@@ -84,16 +31,35 @@ pub record EndsFiles (request : Request) (rule : List ℕ → StreamFacts → Op
   -- what stands of a codestream's output where its line isn't said
   pub unsaid : (IsJp2 input → ⊥) → IsCutShort request.to (aim_of request rule) input blocks old new
 
+-- an input that is longer than it may be, of which a front was read
+ends_long : (request : Request) (rule : List ℕ → StreamFacts → Option Rule) (input : List ℕ) (a b : Meaning) → IfSome (joined (a.holds request.from)) (λ held. input ≡ held) → request.limit < length input → IsUntouched a b
+    → EndsFiles request rule (status.Limit 1 (request.limit + 1)) 0 0 [] a b
+ends_long request rule input a b told long same = record {
+  input = input;
+  files = record {
+    told = told;
+    bare = λ not. record {
+      verdict = λ v. inl (inl (long, refl, refl));
+      leaves = (inr (omega arith, refl), same);
+      tape = inl refl;
+      whole = λ done. absurd (undone (status.Limit 1 (request.limit + 1)) tt done);
+      taped = refl;
+    };
+    jp2 = λ is. inl (record { verdict = λ v. (long, refl, refl); none = refl; tape = refl; same = same });
+  };
+  unsaid = λ not. inl (refl, same);
+}
+
 -- what an answer to the bytes read says of the input
 pub ends_read : (request : Request) (rule : List ℕ → StreamFacts → Option Rule) (read : List ℕ) (s : Status) (blocks bytes : ℕ) (tape : List TapeEntry) (a b c : Meaning)
-    → IfSome (joined (a.holds request.from)) (λ held. read ≡ take 268435457 held) → IsUntouched a b
+    → IsFront request.limit (joined (a.holds request.from)) read → IsUntouched a b
     → ((IsJp2 read → ⊥) → IsAnswered request.to request.work (aim_of request rule) read s blocks bytes tape b c) → (IsJp2 read → EndsJp2 request.to request.work request.form (aim_of request rule) read s blocks bytes tape b c)
-    → (most_bytes < length read → tape ≡ []) → EndsFiles request rule s blocks bytes tape a c
-ends_read request rule read s blocks bytes tape a b c front first bare jp2 none = let aim : Aim = aim_of request rule in elim (cases_lt most_bytes (length read)) [
+    → (request.limit < length read → IsTooLong request.limit s blocks bytes tape b c) → EndsFiles request rule s blocks bytes tape a c
+ends_read request rule read s blocks bytes tape a b c front first bare jp2 over = let aim : Aim = aim_of request rule in elim (cases_lt request.limit (length read)) [
   | inr short ↦ record {
     input = read;
     files = record {
-      told = short_told (joined (a.holds request.from)) read front short;
+      told = short_told request.limit (joined (a.holds request.from)) read front short;
       bare = λ not. record {
         verdict = (bare not).verdict;
         leaves = leaves_after request.to aim read s blocks bytes a b c first (bare not).leaves;
@@ -106,24 +72,9 @@ ends_read request rule read s blocks bytes tape a b c front first bare jp2 none 
     unsaid = λ not. cut_after request.to aim read blocks a b c first (bare not).unsaid;
   }
   | inl long ↦
-      let input : List ℕ = whole (joined (a.holds request.from)) read in
-      let long_input : most_bytes < length input = long_whole (joined (a.holds request.from)) read front long in
-      let of : (IsJp2 input → ⊥) → IsAnswered request.to request.work aim read s blocks bytes tape b c = λ not. bare (λ is. not (jp2_whole (joined (a.holds request.from)) read front is)) in
-      record {
-        input = input;
-        files = record {
-          told = told_whole (joined (a.holds request.from)) read;
-          bare = λ not. record {
-            verdict = λ v. long_verdict aim s read input long long_input ((of not).verdict v);
-            leaves = leaves_after request.to aim input s blocks bytes a b c first (long_leaves request.to aim s read input blocks bytes b c long long_input (of not).verdict (of not).leaves);
-            tape = inl (none long);
-            whole = λ done. absurd (never_done aim s read long (of not).verdict done);
-            taped = long_taped aim s read input (length tape) long (of not).verdict (ap (λ (t : List TapeEntry). length t) (none long));
-          };
-          jp2 = λ is. jp2_long request.to request.work request.form aim read input s blocks bytes tape a b c long long_input first (jp2 (jp2_front (joined (a.holds request.from)) read front is));
-        };
-        unsaid = λ not. cut_after request.to aim input blocks a b c first (long_cut request.to aim read input blocks b c long (of not).unsaid);
-      }
+      let is : IsTooLong request.limit s blocks bytes tape b c = over long in
+      rw (is.is, is.blocks_are, is.bytes_are, is.tape, is.same)
+      (ends_long request rule (whole (joined (a.holds request.from)) read) a b (told_whole (joined (a.holds request.from)) read) (long_whole request.limit (joined (a.holds request.from)) read front long) first)
 ]
 
 -- nothing was read to its end, and nothing was made
@@ -153,14 +104,14 @@ pub ends_refused : (request : Request) (rule : List ℕ → StreamFacts → Opti
 ends_refused request rule e s blocks bytes tape a b is none empty same = rw (none.0, none.1, empty) (ends_unread request rule s a b (unread_either e s is) same)
 
 -- the parts of a request
-same_request : (r : Request) (from to : Text) (w : Wanted) (work : Work) (kind : FormChoice) (d : ℕ) → from ≡ r.from → to ≡ r.to → w ≡ r.wanted → work ≡ r.work → kind ≡ r.form → d ≡ r.reduce
-    → ◌≡◌ {A = Request} (record { from = from; to = to; wanted = w; work = work; form = kind; reduce = d }) r
-same_request r from to w work kind d e f h g k l = rw (e, f, h, g, k, l) refl
+same_request : (r : Request) (from to : Text) (w : Wanted) (work : Work) (kind : FormChoice) (d limit : ℕ) → from ≡ r.from → to ≡ r.to → w ≡ r.wanted → work ≡ r.work → kind ≡ r.form → d ≡ r.reduce → limit ≡ r.limit
+    → ◌≡◌ {A = Request} (record { from = from; to = to; wanted = w; work = work; form = kind; reduce = d; limit = limit }) r
+same_request r from to w work kind d limit e f h g k l m = rw (e, f, h, g, k, l, m) refl
 
-pub ends_as : (r : Request) (rule : List ℕ → StreamFacts → Option Rule) (from to : Text) (w : Wanted) (work : Work) (kind : FormChoice) (d : ℕ) (s : Status) (blocks bytes : ℕ) (tape : List TapeEntry) (old new : Meaning) → from ≡ r.from → to ≡ r.to → w ≡ r.wanted
-    → work ≡ r.work → kind ≡ r.form → d ≡ r.reduce → EndsFiles (record { from = from; to = to; wanted = w; work = work; form = kind; reduce = d }) rule s blocks bytes tape old new → EndsFiles r rule s blocks bytes tape old new
-ends_as r rule from to w work kind d s blocks bytes tape old new e f h g k l ends =
-    subst (λ (x : Request). EndsFiles x rule s blocks bytes tape old new) (same_request r from to w work kind d e f h g k l) ends
+pub ends_as : (r : Request) (rule : List ℕ → StreamFacts → Option Rule) (from to : Text) (w : Wanted) (work : Work) (kind : FormChoice) (d limit : ℕ) (s : Status) (blocks bytes : ℕ) (tape : List TapeEntry) (old new : Meaning) → from ≡ r.from → to ≡ r.to → w ≡ r.wanted
+    → work ≡ r.work → kind ≡ r.form → d ≡ r.reduce → limit ≡ r.limit → EndsFiles (record { from = from; to = to; wanted = w; work = work; form = kind; reduce = d; limit = limit }) rule s blocks bytes tape old new → EndsFiles r rule s blocks bytes tape old new
+ends_as r rule from to w work kind d limit s blocks bytes tape old new e f h g k l m ends =
+    subst (λ (x : Request). EndsFiles x rule s blocks bytes tape old new) (same_request r from to w work kind d limit e f h g k l m) ends
 
 -- a run over good words whose line was said, or wasn't
 pub ends_said : (request : Request) (rule : List ℕ → StreamFacts → Option Rule) (s late : Status) (blocks bytes : ℕ) (tape : List TapeEntry) (fault_before fault_now : ℕ) (old new : Meaning) (before now : Option (List ℕ))

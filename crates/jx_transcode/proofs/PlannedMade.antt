@@ -8,6 +8,7 @@ use Rattle.std.proofs.lemmas.List.Quantifiers.{position-Some}
 use Rattle.std.proofs.lemmas.List.Sums.{count_by-le-length}
 use Rattle.std.proofs.lemmas.Nat.{mul-le}
 use Rattle.std.proofs.lemmas.Option.{get_or_from_slice_get, slice_get_within}
+use Rattle.jx_base.specs.Limits.{most_bytes}
 use Rattle.jx_base.specs.declared.pieces.Block.{Block}
 use Rattle.jx_base.specs.declared.style.Style.{Style}
 use Rattle.jx_base.specs.Passes.{has_symbols}
@@ -59,7 +60,7 @@ Rises p q = p.res ≤ q.res
 
 -- what the laws of the crates below say of what may be planned, and of what is generated
 pub record MadeLaws : Type 0 where
-  pub may : (b : List ℕ) (s : Stream) (blocks : List Block) → IsRead b s → length b ≤ 2 ^ 28 → totals_fault s ≡ None → IsGathered b s blocks → MayBePlanned s blocks
+  pub may : (b : List ℕ) (s : Stream) (blocks : List Block) → IsRead b s → length b ≤ most_bytes → totals_fault s ≡ None → IsGathered b s blocks → MayBePlanned s blocks
   pub fit : (s : Stream) → HeadersStand s → Fits None s
   pub few : (names : List PacketName) (n : ℕ) → 1 ≤ n → AllPairs Rises names → ((p : PacketName) → Contains names p → p.res < n) → length (groups_of part.Resolution names) ≤ n
   pub plain : (w h size : ℕ) (blocks : List Block) → AreSizes w h → AreBlocksOf (stream_made w h size) blocks → All IsSound blocks → All IsPlain blocks

@@ -8,24 +8,24 @@ use Rattle.jx_rounds.specs.declared.tape.TapeEntry.{TapeEntry}
 use Rattle.jx_transcode.specs.Aims.{Aim}
 use Rattle.jx_transcode.specs.Filed.{IsAnswered}
 use Rattle.jx_transcode.specs.Jp2Run.{EndsJp2, KeepsPositions, RefusesBoxes}
-use Rattle.jx_transcode.specs.Outcome.{EndsAs, IsVerdict, Verdict, most_bytes}
+use Rattle.jx_transcode.specs.Outcome.{EndsAs, IsVerdict, Verdict}
 use Rattle.jx_transcode.specs.TranscodeRun.{TellsPositions}
 use Rattle.jx_transcode.specs.declared.status.Status.{Status}
 use Rattle.jx_transcode.specs.declared.status.Status.TheVariants as status
 use Rattle.jx_transcode.proofs.DoneLemmas.{undone}
 use Rattle.jx_transcode.proofs.LeftLemmas.{IsFront, short_told}
 
--- ---- what is done has at most 2^32 - 1 bytes
+-- ---- what is done has as many bytes as it may have
 pub bare_short : (name : Text) (work : Work) (aim : Aim) (input : List ℕ) (s : Status) (blocks bytes : ℕ) (tape : List TapeEntry) (old new : Meaning) → IsAnswered name work aim input s blocks bytes tape old new → s ≡ status.Done
-    → length input ≤ most_bytes
+    → length input ≤ aim.limit
 bare_short name work aim input s blocks bytes tape old new is done =
     let verdict : Verdict aim input status.Done = subst (λ (x : Status). IsVerdict x → Verdict aim input x) done is.verdict tt in
     verdict.0
 
 pub jp2_short : (name : Text) (work : Work) (kind : FormChoice) (aim : Aim) (input : List ℕ) (s : Status) (blocks bytes : ℕ) (tape : List TapeEntry) (old new : Meaning) → EndsJp2 name work kind aim input s blocks bytes tape old new
-    → s ≡ status.Done → length input ≤ most_bytes
+    → s ≡ status.Done → length input ≤ aim.limit
 jp2_short name work kind aim input s blocks bytes tape old new (inl before) done =
-    let refused : RefusesBoxes input status.Done = subst (λ (x : Status). IsVerdict x → RefusesBoxes input x) done before.verdict tt in
+    let refused : RefusesBoxes aim.limit input status.Done = subst (λ (x : Status). IsVerdict x → RefusesBoxes aim.limit input x) done before.verdict tt in
     absurd refused
 jp2_short name work kind aim input s blocks bytes tape old new (inr around) done = around.1.within
 
@@ -51,10 +51,10 @@ never_told kind told late (Some bytes) not other = (λ t. absurd (not t), λ kee
 pub positions_untold : (request : Request) (told : Bool) (late : Status) (old : Meaning) → (IsTrue told → ⊥) → (late ≡ status.Done → ⊥) → TellsPositions request told late old
 positions_untold request told late old not other = never_told request.form told late (joined (old.holds request.from)) not other
 
-pub positions_told : (request : Request) (told positions : Bool) (s late : Status) (old : Meaning) (read : List ℕ) → IsFront (joined (old.holds request.from)) read → (s ≡ status.Done → length read ≤ most_bytes)
+pub positions_told : (request : Request) (told positions : Bool) (s late : Status) (old : Meaning) (read : List ℕ) → IsFront request.limit (joined (old.holds request.from)) read → (s ≡ status.Done → length read ≤ request.limit)
     → (IsTrue positions ↔ KeepsPositions request.form read s) → (IsTrue told ↔ (IsTrue positions × (late ≡ status.Done))) → (late ≡ status.Done → s ≡ status.Done) → TellsPositions request told late old
 positions_told request told positions s late old read front short kept is done = elim (is_done late) [
-  | inl ended ↦ told_of request.form told positions s late (joined (old.holds request.from)) read (short_told (joined (old.holds request.from)) read front (short (done ended))) kept is done
+  | inl ended ↦ told_of request.form told positions s late (joined (old.holds request.from)) read (short_told request.limit (joined (old.holds request.from)) read front (short (done ended))) kept is done
   | inr other ↦ positions_untold request told late old (λ t. other (is.0 t).1) other
 ]
   where

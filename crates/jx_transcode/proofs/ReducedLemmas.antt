@@ -1,6 +1,7 @@
 -- What is left of an input without its highest resolutions: all of it with 0, and where nothing is.
-use Rattle.std.proofs.Common.{◌≡◌, ◌∙◌, ◌≤◌, ◌<◌, ◌^◌, ℕ, List, [], length, Option, None, Some, ap, refl, sym, subst, arith, inl, inr, ◌⊎◌}
+use Rattle.std.proofs.Common.{◌≡◌, ◌∙◌, ◌≤◌, ◌<◌, ℕ, List, [], length, Option, None, Some, ap, refl, sym, subst, arith, inl, inr, ◌⊎◌}
 use Rattle.std.specs.Option.{option_or}
+use Rattle.jx_base.specs.Limits.{most_bytes}
 use Rattle.jx_base.specs.declared.pieces.Block.{Block}
 use Rattle.jx_codestream.specs.declared.Stream.{Stream}
 use Rattle.jx_codestream.specs.Read.{IsRead}
@@ -17,7 +18,6 @@ use Rattle.jx_reduce.specs.declared.faults.ReduceFault.TheVariants as unreduced
 use Rattle.jx_cli.specs.Words.{Text}
 use Rattle.jx_transcode.specs.Aims.{Aim}
 use Rattle.jx_transcode.specs.Filed.{IsAnswered, all_told, told_of_all}
-use Rattle.jx_transcode.specs.Outcome.{most_bytes}
 use Rattle.jx_transcode.specs.Rewritten.{HasBlocks, IsIrreducible, Reads, ReadsLeft}
 use Rattle.jx_transcode.specs.declared.status.Status.{Status}
 use Rattle.jx_transcode.specs.declared.status.Status.TheVariants as status
@@ -27,16 +27,14 @@ use Rattle.jx_transcode.proofs.RefusedLemmas.{IsTold, no_plan, told_unread, told
 
 -- what the laws of the crates below say of what is read, and of leaving out nothing
 pub record WholeLaws : Type 0 where
-  pub may : (b : List ℕ) (s : Stream) (blocks : List Block) → IsRead b s → length b ≤ 2 ^ 28 → totals_fault s ≡ None → IsGathered b s blocks → MayBePlanned s blocks
+  pub may : (b : List ℕ) (s : Stream) (blocks : List Block) → IsRead b s → length b ≤ most_bytes → totals_fault s ≡ None → IsGathered b s blocks → MayBePlanned s blocks
   pub stream : (s : Stream) → HeadersStand s → stream_left 0 s ≡ s
   pub blocks : (s : Stream) (blocks : List Block) → MayBePlanned s blocks → blocks_left 0 s blocks ≡ blocks
   pub free : (s : Stream) → HeadersStand s → first_choice 0 s ≡ None
 
 module _ (laws : WholeLaws) (input : List ℕ) (s : Stream) (blocks : List Block) (short : length input ≤ most_bytes) where
   pub planned_of : Reads input s blocks → MayBePlanned s blocks
-  planned_of reads =
-      let small : length input ≤ 2 ^ 28 = short in
-      laws.may input s blocks reads.read small reads.totals reads.gathered
+  planned_of reads = laws.may input s blocks reads.read short reads.totals reads.gathered
 
   -- with 0 all is left
   pub all_left : Reads input s blocks → ReadsLeft 0 input s blocks
@@ -85,12 +83,12 @@ pub never_memory : (d : ℕ) (s : Stream) → first_choice d s ≡ Some unreduce
 never_memory d s e = no_memory_by (first_passing d s.siz.comps) (first_fewer d s) e
 
 pub answered_unreduced : WholeLaws → (name : Text) (work : Work) (aim : Aim) (input : List ℕ) (s : Stream) (blocks : List Block) (e : ReduceFault) (n : ℕ) (mm : Meaning) → IsUnreducible aim.reduce s e → n ≡ length blocks
-    → length input ≤ most_bytes → Reads input s blocks → IsAnswered name work aim input (told_of_all e) (all_told e n) 0 [] mm mm
-answered_unreduced laws name work aim input s blocks (unreduced.Choice number place) n mm cause count within reads =
+    → length input ≤ aim.limit → length input ≤ most_bytes → Reads input s blocks → IsAnswered name work aim input (told_of_all e) (all_told e n) 0 [] mm mm
+answered_unreduced laws name work aim input s blocks (unreduced.Choice number place) n mm cause count within short reads =
     let is : IsIrreducible aim.reduce input number place = record { stream = s; blocks = blocks; reads = reads; cause = cause } in
     let above : (number ≡ 8) ⊎ (number ≡ 9) = choice_of_all aim.reduce s number place cause in
     let other : number ≡ 7 → ⊥ = never_seven number above in
-    let all : HasBlocks 0 input n = record { stream = s; blocks = blocks; reads = all_left laws input s blocks within reads; count_is = count } in record {
+    let all : HasBlocks 0 input n = record { stream = s; blocks = blocks; reads = all_left laws input s blocks short reads; count_is = count } in record {
       verdict = λ v. (within, inr (inr is));
       leaves = inr (other, inr (above, all), untouched mm);
       unsaid = inr (inr (inl (record { within = within; number = number; place = place; is = is; count = all; same = untouched mm })));
@@ -98,7 +96,7 @@ answered_unreduced laws name work aim input s blocks (unreduced.Choice number pl
       whole = λ done. absurd (undone (status.Choice number place) tt done);
       taped = inr (other, refl);
     }
-answered_unreduced laws name work aim input s blocks unreduced.NoMemory n mm cause count within reads = no_plan name work aim input mm
+answered_unreduced laws name work aim input s blocks unreduced.NoMemory n mm cause count within short reads = no_plan name work aim input mm
 
 -- ---- what is told of it is no fault of a device, and doesn't speak of the words
 all_is_told : (e : ReduceFault) → IsTold (told_of_all e)

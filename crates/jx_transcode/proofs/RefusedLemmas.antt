@@ -21,7 +21,7 @@ use Rattle.jx_options.specs.Wanted.{Wanted}
 use Rattle.jx_transcode.specs.Aims.{Aim, rule_in}
 use Rattle.jx_transcode.specs.Filed.{IsAnswered, blocks_told, told_by, told_of_plan}
 use Rattle.jx_transcode.specs.Judged.{IsInputCause}
-use Rattle.jx_transcode.specs.Outcome.{IsCutShort, most_bytes}
+use Rattle.jx_transcode.specs.Outcome.{IsCutShort}
 use Rattle.jx_transcode.specs.Rewritten.{HasBlocks, IsUnplanned, Reads, ReadsLeft}
 use Rattle.jx_transcode.specs.declared.status.Status.{Status}
 use Rattle.jx_transcode.specs.declared.status.Status.TheVariants as status
@@ -110,7 +110,7 @@ has_blocks : (d : ℕ) (input : List ℕ) (s : Stream) (blocks : List Block) (n 
 has_blocks d input s blocks n count reads = record { stream = s; blocks = blocks; reads = reads; count_is = count }
 
 over_short : (name : Text) (aim : Aim) (input : List ℕ) (s : Stream) (blocks : List Block) (e : PlanFault) (n : ℕ) (mm : Meaning) → (e ≡ unplanned.NoMemory → ⊥) → HasPlanCause (rule_in aim s blocks) s blocks aim.wanted e → n ≡ length blocks
-    → length input ≤ most_bytes → ReadsLeft aim.reduce input s blocks → IsCutShort name aim input n mm mm
+    → length input ≤ aim.limit → ReadsLeft aim.reduce input s blocks → IsCutShort name aim input n mm mm
 over_short name aim input s blocks e n mm caused cause count within reads = inr (inl (record {
   within = within;
   why = e;
@@ -121,7 +121,7 @@ over_short name aim input s blocks e n mm caused cause count within reads = inr 
 }))
 
 pub answered_unplanned : (name : Text) (work : Work) (aim : Aim) (input : List ℕ) (s : Stream) (blocks : List Block) (e : PlanFault) (n : ℕ) (mm : Meaning) → HasPlanCause (rule_in aim s blocks) s blocks aim.wanted e → n ≡ length blocks
-    → length input ≤ most_bytes → ReadsLeft aim.reduce input s blocks → IsAnswered name work aim input (told_of_plan e) (blocks_told e n) 0 [] mm mm
+    → length input ≤ aim.limit → ReadsLeft aim.reduce input s blocks → IsAnswered name work aim input (told_of_plan e) (blocks_told e n) 0 [] mm mm
 answered_unplanned name work aim input s blocks (unplanned.Limit number found) n mm cause count within reads = record {
   verdict = λ v. inr (within, is_unplanned aim input s blocks (unplanned.Limit number found) cause reads);
   leaves = (inl (limit_seven (rule_in aim s blocks) s blocks aim.wanted number found cause, has_blocks aim.reduce input s blocks n count reads), untouched mm);
@@ -140,7 +140,7 @@ answered_unplanned name work aim input s blocks (unplanned.Choice number place) 
 }
 answered_unplanned name work aim input s blocks unplanned.NoMemory n mm cause count within reads = no_plan name work aim input mm
 
-pub refused : (name : Text) (work : Work) (aim : Aim) (input : List ℕ) (f : StreamFault) (mm : Meaning) → length input ≤ most_bytes → IsInputCause input f
+pub refused : (name : Text) (work : Work) (aim : Aim) (input : List ℕ) (f : StreamFault) (mm : Meaning) → length input ≤ aim.limit → IsInputCause input f
     → IsAnswered name work aim input (told_by f) 0 0 [] mm mm
 refused name work aim input (fault.Rule number place) mm within cause =
     record { verdict = λ v. (within, cause); leaves = (refl, untouched mm); unsaid = refused_short name aim input mm; tape = inl refl; whole = λ done. absurd (undone (status.Rule number place) tt done); taped = refl }
@@ -154,9 +154,9 @@ refused name work aim input (fault.Limit number found) mm within cause = record 
 }
 refused name work aim input fault.NoMemory mm within cause = no_plan name work aim input mm
 
-pub too_long : (name : Text) (work : Work) (aim : Aim) (input : List ℕ) (mm : Meaning) → most_bytes < length input → IsAnswered name work aim input (status.Limit 1 268435457) 0 0 [] mm mm
+pub too_long : (name : Text) (work : Work) (aim : Aim) (input : List ℕ) (mm : Meaning) → aim.limit < length input → IsAnswered name work aim input (status.Limit 1 (aim.limit + 1)) 0 0 [] mm mm
 too_long name work aim input mm long =
-    record { verdict = λ v. inl (inl (long, refl, refl)); leaves = (inr (omega arith, refl), untouched mm); unsaid = refused_short name aim input mm; tape = inl refl; whole = λ done. absurd (undone (status.Limit 1 268435457) tt done); taped = refl }
+    record { verdict = λ v. inl (inl (long, refl, refl)); leaves = (inr (omega arith, refl), untouched mm); unsaid = refused_short name aim input mm; tape = inl refl; whole = λ done. absurd (undone (status.Limit 1 (aim.limit + 1)) tt done); taped = refl }
 
 pub tile_cause : (input : List ℕ) (s : Stream) (e : StreamFault) → IsRead input s → HasCause (IsBroken input s) e → IsInputCause input e
 tile_cause input s (fault.Rule number place) read broken = inr (record { stream = s; read = read; broken = broken })
@@ -176,11 +176,11 @@ header_cause input (fault.Limit number found) (inl e) = absurd (no_limit number 
 header_cause input (fault.Limit number found) (inr first) = inl first
 header_cause input fault.NoMemory h = tt
 
-pub tiles_refused : (name : Text) (work : Work) (aim : Aim) (input : List ℕ) (s : Stream) (f : StreamFault) (mm : Meaning) → length input ≤ most_bytes → IsRead input s → HasCause (IsBroken input s) f
+pub tiles_refused : (name : Text) (work : Work) (aim : Aim) (input : List ℕ) (s : Stream) (f : StreamFault) (mm : Meaning) → length input ≤ aim.limit → IsRead input s → HasCause (IsBroken input s) f
     → IsAnswered name work aim input (told_by f) 0 0 [] mm mm
 tiles_refused name work aim input s f mm within read broken = refused name work aim input f mm within (tile_cause input s f read broken)
 
-pub header_refused : (name : Text) (work : Work) (aim : Aim) (input : List ℕ) (f : StreamFault) (mm : Meaning) → length input ≤ most_bytes → (f ≡ fault.NoMemory) ⊎ IsFirst input f
+pub header_refused : (name : Text) (work : Work) (aim : Aim) (input : List ℕ) (f : StreamFault) (mm : Meaning) → length input ≤ aim.limit → (f ≡ fault.NoMemory) ⊎ IsFirst input f
     → IsAnswered name work aim input (told_by f) 0 0 [] mm mm
 header_refused name work aim input f mm within first = refused name work aim input f mm within (header_cause input f first)
 

@@ -5,7 +5,7 @@ use Rattle.jx_io.specs.Device.{Meaning}
 use Rattle.jx_layers.specs.declared.StreamFacts.{StreamFacts}
 use Rattle.jx_layers.specs.Rule.{Rule}
 use Rattle.jx_plan.specs.Planned.{chosen}
-use Rattle.jx_cli.specs.BoxesWords.{boxes_of, is_boxes}
+use Rattle.jx_cli.specs.BoxesWords.{Boxes, boxes_of, is_boxes}
 use Rattle.jx_cli.specs.MakeWords.{Make, is_make, make_of}
 use Rattle.jx_cli.specs.SameWords.{Pair, is_same, same_of}
 use Rattle.jx_cli.specs.ShowWords.{Show, is_show, show_of}
@@ -54,12 +54,12 @@ outcome_make words seed width height rule s blocks entries old new before now as
   bad = λ not is other more last. absurd (both_ways (is_make words) is asks.1);
 }
 
-pub outcome_boxes : (words : List Text) (name : Text) (rule : List ℕ → StreamFacts → Option Rule) (s : Status) (blocks : ℕ) (entries : List TapeEntry) (old new : Meaning) (before now : Option (List ℕ))
-    → (is_good words ≡ false) × (is_make words ≡ false) × (is_boxes words ≡ true) × (is_same words ≡ false) × (is_show words ≡ false) × (name ≡ boxes_of words) → EndsListed name s blocks entries old new before now → Outcome words rule s blocks entries old new before now
-outcome_boxes words name rule s blocks entries old new before now asks ends = record {
+pub outcome_boxes : (words : List Text) (asked : Boxes) (rule : List ℕ → StreamFacts → Option Rule) (s : Status) (blocks : ℕ) (entries : List TapeEntry) (old new : Meaning) (before now : Option (List ℕ))
+    → Asks words (command.Boxes asked) → EndsListed asked s blocks entries old new before now → Outcome words rule s blocks entries old new before now
+outcome_boxes words asked rule s blocks entries old new before now asks ends = record {
   good = λ is. absurd (both_ways (is_good words) asks.0 is);
   made = λ is. absurd (both_ways (is_make words) asks.1 is);
-  listed = λ is. subst (λ (n : Text). EndsListed n s blocks entries old new before now) asks.5 ends;
+  listed = λ is. subst (λ (a : Boxes). EndsListed a s blocks entries old new before now) asks.5 ends;
   compared = λ is. absurd (both_ways (is_same words) asks.3 is);
   shown = λ is. absurd (both_ways (is_show words) asks.4 is);
   bad = λ not is other more last. absurd (both_ways (is_boxes words) other asks.2);
@@ -127,9 +127,9 @@ pub outcome_memory : (words : List Text) (rule : List ℕ → StreamFacts → Op
 outcome_memory words rule late fault_before fault_now files before now said = record {
   good = λ is. memory_good words rule late fault_before fault_now files before now said;
   made = λ is. made_short (make_of words) rule late fault_before fault_now files before now said;
-  listed = λ is. lines_short BoxesVerdict HasLines (boxes_of words) late fault_before fault_now files before now said;
+  listed = λ is. lines_short (BoxesVerdict (boxes_of words).limit) HasLines (boxes_of words).name late fault_before fault_now files before now said;
   compared = λ is. compared_short (same_of words) late fault_before fault_now files before now said;
-  shown = λ is. lines_short ShowVerdict (IsShown (show_of words).json) (show_of words).name late fault_before fault_now files before now said;
+  shown = λ is. lines_short (ShowVerdict (show_of words).limit) (IsShown (show_of words).limit (show_of words).json) (show_of words).name late fault_before fault_now files before now said;
   bad = λ not is other more last. words_other status.NoMemory late fault_before fault_now files before now (inr refl) said;
 }
 

@@ -19,24 +19,24 @@ use Rattle.jx_transcode.proofs.LeftLemmas.{IsFront, long_whole, short_told, told
 use Rattle.jx_transcode.proofs.SaidLemmas.{unread_said}
 
 -- ---- a file of which a front was read, and that is refused
-pub record IsUnfitInput (held : Option (List ℕ)) (s : Status) : Type 0 where
+pub record IsUnfitInput (limit : ℕ) (held : Option (List ℕ)) (s : Status) : Type 0 where
   pub input : List ℕ
   pub told : IfSome held (λ bytes. input ≡ bytes)
-  pub is : IsUnfit input s
+  pub is : IsUnfit limit input s
 
-pub unfit_told : (held : Option (List ℕ)) (read : List ℕ) (s : Status) → IsFront held read → IsUnfit read s → IsUnfitInput held s
-unfit_told held read (status.Rule number place) front is = record { input = read; told = short_told held read front is.0; is = is }
-unfit_told held read (status.Limit number found) front (inl long) =
-    record { input = whole held read; told = told_whole held read; is = inl (long_whole held read front long.0, long.1, long.2) }
-unfit_told held read (status.Limit number found) front (inr short) = record { input = read; told = short_told held read front short.0; is = inr short }
-unfit_told held read status.NoMemory front is = record { input = whole held read; told = told_whole held read; is = tt }
-unfit_told held read status.Done front is = absurd is
-unfit_told held read status.Words front is = absurd is
-unfit_told held read (status.Choice number place) front is = absurd is
-unfit_told held read (status.Block number) front is = absurd is
-unfit_told held read (status.Unlike how) front is = absurd is
-unfit_told held read status.ReadFault front is = absurd is
-unfit_told held read status.WriteFault front is = absurd is
+pub unfit_told : (limit : ℕ) (held : Option (List ℕ)) (read : List ℕ) (s : Status) → IsFront limit held read → IsUnfit limit read s → IsUnfitInput limit held s
+unfit_told limit held read (status.Rule number place) front is = record { input = read; told = short_told limit held read front is.0; is = is }
+unfit_told limit held read (status.Limit number found) front (inl long) =
+    record { input = whole held read; told = told_whole held read; is = inl (long_whole limit held read front long.0, long.1, long.2) }
+unfit_told limit held read (status.Limit number found) front (inr short) = record { input = read; told = short_told limit held read front short.0; is = inr short }
+unfit_told limit held read status.NoMemory front is = record { input = whole held read; told = told_whole held read; is = tt }
+unfit_told limit held read status.Done front is = absurd is
+unfit_told limit held read status.Words front is = absurd is
+unfit_told limit held read (status.Choice number place) front is = absurd is
+unfit_told limit held read (status.Block number) front is = absurd is
+unfit_told limit held read (status.Unlike how) front is = absurd is
+unfit_told limit held read status.ReadFault front is = absurd is
+unfit_told limit held read status.WriteFault front is = absurd is
 
 -- ---- no fault of a device
 abbrev IsCalm : Status → Type 0
@@ -54,87 +54,87 @@ IsCalm status.NoMemory = Unit {0}
 calm : (s : Status) → IsCalm s → (s ≡ status.ReadFault → ⊥) × (s ≡ status.WriteFault → ⊥)
 calm s is = (λ failed. subst IsCalm failed is, λ failed. subst IsCalm failed is)
 
-unfit_calm : (read : List ℕ) (s : Status) → IsUnfit read s → IsCalm s
-unfit_calm read (status.Rule number place) is = tt
-unfit_calm read (status.Limit number found) is = tt
-unfit_calm read status.NoMemory is = tt
-unfit_calm read status.Done is = absurd is
-unfit_calm read status.Words is = absurd is
-unfit_calm read (status.Choice number place) is = absurd is
-unfit_calm read (status.Block number) is = absurd is
-unfit_calm read (status.Unlike how) is = absurd is
-unfit_calm read status.ReadFault is = absurd is
-unfit_calm read status.WriteFault is = absurd is
+unfit_calm : (limit : ℕ) (read : List ℕ) (s : Status) → IsUnfit limit read s → IsCalm s
+unfit_calm limit read (status.Rule number place) is = tt
+unfit_calm limit read (status.Limit number found) is = tt
+unfit_calm limit read status.NoMemory is = tt
+unfit_calm limit read status.Done is = absurd is
+unfit_calm limit read status.Words is = absurd is
+unfit_calm limit read (status.Choice number place) is = absurd is
+unfit_calm limit read (status.Block number) is = absurd is
+unfit_calm limit read (status.Unlike how) is = absurd is
+unfit_calm limit read status.ReadFault is = absurd is
+unfit_calm limit read status.WriteFault is = absurd is
 
-second_calm : (read : List ℕ) (s : Status) → IsUnfit read s → IsCalm (second_status s)
-second_calm read (status.Rule number place) is = tt
-second_calm read (status.Limit number found) is = tt
-second_calm read status.NoMemory is = tt
-second_calm read status.Done is = absurd is
-second_calm read status.Words is = absurd is
-second_calm read (status.Choice number place) is = absurd is
-second_calm read (status.Block number) is = absurd is
-second_calm read (status.Unlike how) is = absurd is
-second_calm read status.ReadFault is = absurd is
-second_calm read status.WriteFault is = absurd is
+second_calm : (limit : ℕ) (read : List ℕ) (s : Status) → IsUnfit limit read s → IsCalm (second_status s)
+second_calm limit read (status.Rule number place) is = tt
+second_calm limit read (status.Limit number found) is = tt
+second_calm limit read status.NoMemory is = tt
+second_calm limit read status.Done is = absurd is
+second_calm limit read status.Words is = absurd is
+second_calm limit read (status.Choice number place) is = absurd is
+second_calm limit read (status.Block number) is = absurd is
+second_calm limit read (status.Unlike how) is = absurd is
+second_calm limit read status.ReadFault is = absurd is
+second_calm limit read status.WriteFault is = absurd is
 
 answer_calm : {E : Type 0} (r : Result Answer E) → IsCalm (answer_status r)
 answer_calm (Ok answer.Same) = tt
 answer_calm (Ok (answer.Differs difference)) = tt
 answer_calm (Err e) = tt
 
-pub unfit_unread : (read : List ℕ) (s : Status) → IsUnfit read s → (s ≡ status.ReadFault → ⊥) × (s ≡ status.WriteFault → ⊥)
-unfit_unread read s is = calm s (unfit_calm read s is)
+pub unfit_unread : (limit : ℕ) (read : List ℕ) (s : Status) → IsUnfit limit read s → (s ≡ status.ReadFault → ⊥) × (s ≡ status.WriteFault → ⊥)
+unfit_unread limit read s is = calm s (unfit_calm limit read s is)
 
-pub second_unfit_unread : (read : List ℕ) (s t : Status) → t ≡ second_status s → IsUnfit read s → t ≡ status.ReadFault → ⊥
-second_unfit_unread read s t e is failed = (calm (second_status s) (second_calm read s is)).0 (sym e ∙ failed)
+pub second_unfit_unread : (limit : ℕ) (read : List ℕ) (s t : Status) → t ≡ second_status s → IsUnfit limit read s → t ≡ status.ReadFault → ⊥
+second_unfit_unread limit read s t e is failed = (calm (second_status s) (second_calm limit read s is)).0 (sym e ∙ failed)
 
 pub answer_unread : {E : Type 0} (r : Result Answer E) (t : Status) → t ≡ answer_status r → t ≡ status.ReadFault → ⊥
 answer_unread r t e failed = (calm (answer_status r) (answer_calm r)).0 (sym e ∙ failed)
 
 -- ---- the second file, beside a codestream
-answered_verdict : {E : Type 0} (r : Result Answer E) (s : Stream) (blocks : List Block) (second : List ℕ) (other : Stream) (others : List Block) → IsAccepted second other others
-    → IfOk r (λ told. told ≡ answer_of s (meaning_of s blocks) (meaning_of other others)) → SecondVerdict s blocks second (answer_status r)
-answered_verdict (Ok answer.Same) s blocks second other others accepted is = record { other = other; others = others; accepted = accepted; is = is }
-answered_verdict (Ok (answer.Differs difference)) s blocks second other others accepted is = record { other = other; others = others; accepted = accepted; is = is }
-answered_verdict (Err e) s blocks second other others accepted is = tt
+answered_verdict : {E : Type 0} (r : Result Answer E) (s : Stream) (blocks : List Block) (limit : ℕ) (second : List ℕ) (other : Stream) (others : List Block) → IsAccepted limit second other others
+    → IfOk r (λ told. told ≡ answer_of s (meaning_of s blocks) (meaning_of other others)) → SecondVerdict s blocks limit second (answer_status r)
+answered_verdict (Ok answer.Same) s blocks limit second other others accepted is = record { other = other; others = others; accepted = accepted; is = is }
+answered_verdict (Ok (answer.Differs difference)) s blocks limit second other others accepted is = record { other = other; others = others; accepted = accepted; is = is }
+answered_verdict (Err e) s blocks limit second other others accepted is = tt
 
-pub second_answered : {E : Type 0} (r : Result Answer E) (name : Text) (read : List ℕ) (s : Stream) (blocks : List Block) (other : Stream) (others : List Block) (t : Status) (old new : Meaning) → t ≡ answer_status r
-    → IsFront (joined (old.holds name)) read → IsUntouched old new → IsAccepted read other others
-    → IfOk r (λ told. told ≡ answer_of s (meaning_of s blocks) (meaning_of other others)) → IsSecondTold name s blocks t old new
-second_answered r name read s blocks other others t old new e front same accepted is = rw e (record {
+pub second_answered : {E : Type 0} (r : Result Answer E) (limit : ℕ) (name : Text) (read : List ℕ) (s : Stream) (blocks : List Block) (other : Stream) (others : List Block) (t : Status) (old new : Meaning) → t ≡ answer_status r
+    → IsFront limit (joined (old.holds name)) read → IsUntouched old new → IsAccepted limit read other others
+    → IfOk r (λ told. told ≡ answer_of s (meaning_of s blocks) (meaning_of other others)) → IsSecondTold limit name s blocks t old new
+second_answered r limit name read s blocks other others t old new e front same accepted is = rw e (record {
   second = read;
-  told = short_told (joined (old.holds name)) read front accepted.within;
-  verdict = answered_verdict r s blocks read other others accepted is;
+  told = short_told limit (joined (old.holds name)) read front accepted.within;
+  verdict = answered_verdict r s blocks limit read other others accepted is;
   files = same;
 })
 
-refused_verdict : (s : Stream) (blocks : List Block) (second : List ℕ) (t : Status) → IsUnfit second t → SecondVerdict s blocks second (second_status t)
-refused_verdict s blocks second (status.Rule number place) is = is
-refused_verdict s blocks second (status.Limit number found) is = is
-refused_verdict s blocks second status.NoMemory is = tt
-refused_verdict s blocks second status.Done is = absurd is
-refused_verdict s blocks second status.Words is = absurd is
-refused_verdict s blocks second (status.Choice number place) is = absurd is
-refused_verdict s blocks second (status.Block number) is = absurd is
-refused_verdict s blocks second (status.Unlike how) is = absurd is
-refused_verdict s blocks second status.ReadFault is = absurd is
-refused_verdict s blocks second status.WriteFault is = absurd is
+refused_verdict : (s : Stream) (blocks : List Block) (limit : ℕ) (second : List ℕ) (t : Status) → IsUnfit limit second t → SecondVerdict s blocks limit second (second_status t)
+refused_verdict s blocks limit second (status.Rule number place) is = is
+refused_verdict s blocks limit second (status.Limit number found) is = is
+refused_verdict s blocks limit second status.NoMemory is = tt
+refused_verdict s blocks limit second status.Done is = absurd is
+refused_verdict s blocks limit second status.Words is = absurd is
+refused_verdict s blocks limit second (status.Choice number place) is = absurd is
+refused_verdict s blocks limit second (status.Block number) is = absurd is
+refused_verdict s blocks limit second (status.Unlike how) is = absurd is
+refused_verdict s blocks limit second status.ReadFault is = absurd is
+refused_verdict s blocks limit second status.WriteFault is = absurd is
 
-pub second_unfit : (name : Text) (read : List ℕ) (s : Stream) (blocks : List Block) (t u : Status) (old new : Meaning) → u ≡ second_status t → IsFront (joined (old.holds name)) read → IsUntouched old new → IsUnfit read t
-    → IsSecondTold name s blocks u old new
-second_unfit name read s blocks t u old new e front same is =
-    let input : IsUnfitInput (joined (old.holds name)) t = unfit_told (joined (old.holds name)) read t front is in
-    rw e (record { second = input.input; told = input.told; verdict = refused_verdict s blocks input.input t input.is; files = same })
+pub second_unfit : (limit : ℕ) (name : Text) (read : List ℕ) (s : Stream) (blocks : List Block) (t u : Status) (old new : Meaning) → u ≡ second_status t → IsFront limit (joined (old.holds name)) read → IsUntouched old new → IsUnfit limit read t
+    → IsSecondTold limit name s blocks u old new
+second_unfit limit name read s blocks t u old new e front same is =
+    let input : IsUnfitInput limit (joined (old.holds name)) t = unfit_told limit (joined (old.holds name)) read t front is in
+    rw e (record { second = input.input; told = input.told; verdict = refused_verdict s blocks limit input.input t input.is; files = same })
 
-pub second_unread : (name : Text) (s : Stream) (blocks : List Block) (u : Status) (old new : Meaning) → (u ≡ status.ReadFault) ⊎ (u ≡ status.NoMemory) → IsUntouched old new → IsSecondTold name s blocks u old new
-second_unread name s blocks u old new (inl e) same =
+pub second_unread : (limit : ℕ) (name : Text) (s : Stream) (blocks : List Block) (u : Status) (old new : Meaning) → (u ≡ status.ReadFault) ⊎ (u ≡ status.NoMemory) → IsUntouched old new → IsSecondTold limit name s blocks u old new
+second_unread limit name s blocks u old new (inl e) same =
     rw e (record { second = whole (joined (old.holds name)) []; told = told_whole (joined (old.holds name)) []; verdict = tt; files = same })
-second_unread name s blocks u old new (inr e) same =
+second_unread limit name s blocks u old new (inr e) same =
     rw e (record { second = whole (joined (old.holds name)) []; told = told_whole (joined (old.holds name)) []; verdict = tt; files = same })
 
-pub second_unwritten : (name : Text) (s : Stream) (blocks : List Block) (u : Status) (old new : Meaning) → IsSecondTold name s blocks u old new → u ≡ status.WriteFault → ⊥
-second_unwritten name s blocks u old new told failed = subst (λ (t : Status). SecondVerdict s blocks told.second t) failed told.verdict
+pub second_unwritten : (limit : ℕ) (name : Text) (s : Stream) (blocks : List Block) (u : Status) (old new : Meaning) → IsSecondTold limit name s blocks u old new → u ≡ status.WriteFault → ⊥
+second_unwritten limit name s blocks u old new told failed = subst (λ (t : Status). SecondVerdict s blocks limit told.second t) failed told.verdict
 
 -- ---- both files
 pub first_unread : (names : Pair) (u : Status) (old new : Meaning) → (u ≡ status.ReadFault) ⊎ (u ≡ status.NoMemory) → IsUntouched old new → IsToTell names u 0 old new
@@ -157,7 +157,7 @@ first_unread names u old new (inr e) same = rw e (record {
   files = same;
 })
 
-first_refused : (names : Pair) (t : Status) (old new : Meaning) → IsUnfitInput (joined (old.holds names.first)) t → IsUntouched old new → IsToTell names t 0 old new
+first_refused : (names : Pair) (t : Status) (old new : Meaning) → IsUnfitInput names.limit (joined (old.holds names.first)) t → IsUntouched old new → IsToTell names t 0 old new
 first_refused names (status.Rule number place) old new input same = record {
   first = input.input;
   second = whole (joined (old.holds names.second)) [];
@@ -185,63 +185,63 @@ first_refused names (status.Unlike how) old new input same = absurd input.is
 first_refused names status.ReadFault old new input same = absurd input.is
 first_refused names status.WriteFault old new input same = absurd input.is
 
-pub first_unfit : (names : Pair) (read : List ℕ) (t : Status) (old new : Meaning) → IsFront (joined (old.holds names.first)) read → IsUntouched old new → IsUnfit read t → IsToTell names t 0 old new
-first_unfit names read t old new front same is = first_refused names t old new (unfit_told (joined (old.holds names.first)) read t front is) same
+pub first_unfit : (names : Pair) (read : List ℕ) (t : Status) (old new : Meaning) → IsFront names.limit (joined (old.holds names.first)) read → IsUntouched old new → IsUnfit names.limit read t → IsToTell names t 0 old new
+first_unfit names read t old new front same is = first_refused names t old new (unfit_told names.limit (joined (old.holds names.first)) read t front is) same
 
-both_verdict : (first second : List ℕ) (s : Stream) (blocks : List Block) (t : Status) → IsAccepted first s blocks → IsVerdict t → SecondVerdict s blocks second t → SameVerdict first second t
-both_verdict first second s blocks status.Done accepted v is =
+both_verdict : (limit : ℕ) (first second : List ℕ) (s : Stream) (blocks : List Block) (t : Status) → IsAccepted limit first s blocks → IsVerdict t → SecondVerdict s blocks limit second t → SameVerdict limit first second t
+both_verdict limit first second s blocks status.Done accepted v is =
     record { stream = s; blocks = blocks; accepted = accepted; other = is.other; others = is.others; accepted_too = is.accepted; is = is.is }
-both_verdict first second s blocks (status.Unlike (unlike.Differs difference)) accepted v is =
+both_verdict limit first second s blocks (status.Unlike (unlike.Differs difference)) accepted v is =
     record { stream = s; blocks = blocks; accepted = accepted; other = is.other; others = is.others; accepted_too = is.accepted; is = is.is }
-both_verdict first second s blocks (status.Unlike (unlike.SecondRule number place)) accepted v is = ((s, blocks, accepted), is)
-both_verdict first second s blocks (status.Unlike (unlike.SecondLimit number found)) accepted v is = ((s, blocks, accepted), is)
-both_verdict first second s blocks status.Words accepted v is = absurd is
-both_verdict first second s blocks (status.Rule number place) accepted v is = absurd is
-both_verdict first second s blocks (status.Limit number found) accepted v is = absurd is
-both_verdict first second s blocks (status.Choice number place) accepted v is = absurd is
-both_verdict first second s blocks (status.Block number) accepted v is = absurd is
-both_verdict first second s blocks status.ReadFault accepted v is = absurd v
-both_verdict first second s blocks status.WriteFault accepted v is = absurd v
-both_verdict first second s blocks status.NoMemory accepted v is = absurd v
+both_verdict limit first second s blocks (status.Unlike (unlike.SecondRule number place)) accepted v is = ((s, blocks, accepted), is)
+both_verdict limit first second s blocks (status.Unlike (unlike.SecondLimit number found)) accepted v is = ((s, blocks, accepted), is)
+both_verdict limit first second s blocks status.Words accepted v is = absurd is
+both_verdict limit first second s blocks (status.Rule number place) accepted v is = absurd is
+both_verdict limit first second s blocks (status.Limit number found) accepted v is = absurd is
+both_verdict limit first second s blocks (status.Choice number place) accepted v is = absurd is
+both_verdict limit first second s blocks (status.Block number) accepted v is = absurd is
+both_verdict limit first second s blocks status.ReadFault accepted v is = absurd v
+both_verdict limit first second s blocks status.WriteFault accepted v is = absurd v
+both_verdict limit first second s blocks status.NoMemory accepted v is = absurd v
 
-both_counts : (first : List ℕ) (s : Stream) (blocks : List Block) (t : Status) (count : ℕ) → IsAccepted first s blocks → count ≡ length blocks → TellsBlocks first t (blocks_after t count)
-both_counts first s blocks status.Done count accepted e = record { stream = s; blocks = blocks; accepted = accepted; count_is = e }
-both_counts first s blocks (status.Unlike (unlike.Differs difference)) count accepted e = record { stream = s; blocks = blocks; accepted = accepted; count_is = e }
-both_counts first s blocks (status.Unlike (unlike.SecondRule number place)) count accepted e = refl
-both_counts first s blocks (status.Unlike (unlike.SecondLimit number found)) count accepted e = refl
-both_counts first s blocks status.Words count accepted e = refl
-both_counts first s blocks (status.Rule number place) count accepted e = refl
-both_counts first s blocks (status.Limit number found) count accepted e = refl
-both_counts first s blocks (status.Choice number place) count accepted e = refl
-both_counts first s blocks (status.Block number) count accepted e = refl
-both_counts first s blocks status.ReadFault count accepted e = refl
-both_counts first s blocks status.WriteFault count accepted e = refl
-both_counts first s blocks status.NoMemory count accepted e = refl
+both_counts : (limit : ℕ) (first : List ℕ) (s : Stream) (blocks : List Block) (t : Status) (count : ℕ) → IsAccepted limit first s blocks → count ≡ length blocks → TellsBlocks limit first t (blocks_after t count)
+both_counts limit first s blocks status.Done count accepted e = record { stream = s; blocks = blocks; accepted = accepted; count_is = e }
+both_counts limit first s blocks (status.Unlike (unlike.Differs difference)) count accepted e = record { stream = s; blocks = blocks; accepted = accepted; count_is = e }
+both_counts limit first s blocks (status.Unlike (unlike.SecondRule number place)) count accepted e = refl
+both_counts limit first s blocks (status.Unlike (unlike.SecondLimit number found)) count accepted e = refl
+both_counts limit first s blocks status.Words count accepted e = refl
+both_counts limit first s blocks (status.Rule number place) count accepted e = refl
+both_counts limit first s blocks (status.Limit number found) count accepted e = refl
+both_counts limit first s blocks (status.Choice number place) count accepted e = refl
+both_counts limit first s blocks (status.Block number) count accepted e = refl
+both_counts limit first s blocks status.ReadFault count accepted e = refl
+both_counts limit first s blocks status.WriteFault count accepted e = refl
+both_counts limit first s blocks status.NoMemory count accepted e = refl
 
-pub both_told : (names : Pair) (read : List ℕ) (s : Stream) (blocks : List Block) (t : Status) (count : ℕ) (old mid new : Meaning) → IsFront (joined (old.holds names.first)) read → IsUntouched old mid → IsAccepted read s blocks
-    → count ≡ length blocks → IsSecondTold names.second s blocks t mid new → IsToTell names t count old new
+pub both_told : (names : Pair) (read : List ℕ) (s : Stream) (blocks : List Block) (t : Status) (count : ℕ) (old mid new : Meaning) → IsFront names.limit (joined (old.holds names.first)) read → IsUntouched old mid → IsAccepted names.limit read s blocks
+    → count ≡ length blocks → IsSecondTold names.limit names.second s blocks t mid new → IsToTell names t count old new
 both_told names read s blocks t count old mid new front same accepted e second = record {
   first = read;
   second = second.second;
-  told = short_told (joined (old.holds names.first)) read front accepted.within;
+  told = short_told names.limit (joined (old.holds names.first)) read front accepted.within;
   told_too = subst (λ (held : Option (Option (List ℕ))). IfSome (joined held) (λ bytes. second.second ≡ bytes)) (same.holds names.second) second.told;
-  verdict = λ v. both_verdict read second.second s blocks t accepted v second.verdict;
-  counts = both_counts read s blocks t count accepted e;
+  verdict = λ v. both_verdict names.limit read second.second s blocks t accepted v second.verdict;
+  counts = both_counts names.limit read s blocks t count accepted e;
   files = untouched_twice old mid new same second.files;
 }
 
 -- a refusal of the first is a rule or a limit, or want of memory
-pub unfit_of_first : (read : List ℕ) (t : Status) → IsUnfit read t → ((t ≡ status.ReadFault) ⊎ (t ≡ status.NoMemory)) ⊎ IsOfFirst t
-unfit_of_first read (status.Rule number place) is = inr (inl (number, place, refl))
-unfit_of_first read (status.Limit number found) is = inr (inr (number, found, refl))
-unfit_of_first read status.NoMemory is = inl (inr refl)
-unfit_of_first read status.Done is = absurd is
-unfit_of_first read status.Words is = absurd is
-unfit_of_first read (status.Choice number place) is = absurd is
-unfit_of_first read (status.Block number) is = absurd is
-unfit_of_first read (status.Unlike how) is = absurd is
-unfit_of_first read status.ReadFault is = absurd is
-unfit_of_first read status.WriteFault is = absurd is
+pub unfit_of_first : (limit : ℕ) (read : List ℕ) (t : Status) → IsUnfit limit read t → ((t ≡ status.ReadFault) ⊎ (t ≡ status.NoMemory)) ⊎ IsOfFirst t
+unfit_of_first limit read (status.Rule number place) is = inr (inl (number, place, refl))
+unfit_of_first limit read (status.Limit number found) is = inr (inr (number, found, refl))
+unfit_of_first limit read status.NoMemory is = inl (inr refl)
+unfit_of_first limit read status.Done is = absurd is
+unfit_of_first limit read status.Words is = absurd is
+unfit_of_first limit read (status.Choice number place) is = absurd is
+unfit_of_first limit read (status.Block number) is = absurd is
+unfit_of_first limit read (status.Unlike how) is = absurd is
+unfit_of_first limit read status.ReadFault is = absurd is
+unfit_of_first limit read status.WriteFault is = absurd is
 
 -- ---- said, or not
 pub compared_said : (names : Pair) (s late : Status) (count fault_before fault_now : ℕ) (old new : Meaning) (before now : Option (List ℕ)) → IsToTell names s count old new

@@ -6,6 +6,7 @@ use Rattle.std.proofs.lemmas.List.{length-map}
 use Rattle.std.proofs.lemmas.List.Elements.{All-head}
 use Rattle.std.proofs.lemmas.Nat.{pow_below}
 use Rattle.std.proofs.Math.Nat.{mul-le-mul_left}
+use Rattle.jx_base.specs.Limits.{most_bytes}
 use Rattle.jx_base.specs.declared.pieces.Block.{Block}
 use Rattle.jx_base.specs.Joined.{joined, joined_below}
 use Rattle.jx_marker.specs.declared.CompSize.{CompSize}
@@ -27,7 +28,6 @@ use Rattle.jx_same.specs.declared.answer.Field.{Field}
 use Rattle.jx_same.specs.declared.answer.Field.TheVariants as field
 use Rattle.jx_same.specs.declared.answer.Spot.{Spot}
 use Rattle.jx_transcode.specs.Aims.{Aim}
-use Rattle.jx_transcode.specs.Outcome.{most_bytes}
 use Rattle.jx_transcode.specs.Rewritten.{IsKept}
 use Rattle.jx_transcode.specs.SameRun.{HasCodestream, SameVerdict, fewer_difference}
 use Rattle.jx_transcode.specs.declared.status.Status.TheVariants as status
@@ -151,11 +151,11 @@ same_comps : (s : Stream) (blocks : List Block) → (meaning_of s blocks).siz.co
 unfolding meaning_of
 same_comps s blocks = refl
 
-pub fewer_differ : WholeLaws → (aim : Aim) (input out inner again : List ℕ) (from to : ℕ) (kept : IsKept aim inner again) → 1 ≤ aim.reduce → length input ≤ most_bytes → length out ≤ most_bytes → HasCodestream input from inner
-    → HasCodestream out to again → totals_fault kept.after ≡ None → SameVerdict input out (status.Unlike (unlike.Differs (fewer_difference aim.reduce (size_in kept.reads.whole.siz 0))))
-fewer_differ laws aim input out inner again from to kept more short short_out has has_out within =
+pub fewer_differ : WholeLaws → (aim : Aim) (limit : ℕ) (input out inner again : List ℕ) (from to : ℕ) (kept : IsKept aim inner again) → 1 ≤ aim.reduce → limit ≤ most_bytes → length input ≤ limit → length out ≤ limit → HasCodestream input from inner
+    → HasCodestream out to again → totals_fault kept.after ≡ None → SameVerdict limit input out (status.Unlike (unlike.Differs (fewer_difference aim.reduce (size_in kept.reads.whole.siz 0))))
+fewer_differ laws aim limit input out inner again from to kept more few short short_out has has_out within =
     let whole : Stream = kept.reads.whole in
-    let plan : MayBePlanned whole kept.reads.all = planned_of laws inner whole kept.reads.all (inner_short input inner from has short) kept.reads.reads in
+    let plan : MayBePlanned whole kept.reads.all = planned_of laws inner whole kept.reads.all (inner_short most_bytes input inner from has (omega (arith, short, few))) kept.reads.reads in
     let fits : siz_fits whole.siz ≡ true = plan.headers.siz.fits in record {
       stream = whole;
       blocks = kept.reads.all;

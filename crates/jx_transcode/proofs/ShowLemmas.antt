@@ -16,15 +16,15 @@ use Rattle.jx_transcode.proofs.LeftLemmas.{IsFront, short_told}
 use Rattle.jx_transcode.proofs.LinesLemmas.{IsToSay}
 use Rattle.jx_transcode.proofs.SameLemmas.{IsUnfitInput, unfit_told}
 
-pub shown_of : (json : Bool) (input text : List ℕ) (s : Stream) (blocks : List Block) → IsAccepted input s blocks
-    → (names : Option (List ℕ)) × HasBoxes input names × (text ≡ file_text json names (facts_of s blocks)) → IsShown json input text
-shown_of json input text s blocks accepted is = record { stream = s; blocks = blocks; accepted = accepted; names = is.0; boxes = is.1; is = is.2 }
+pub shown_of : (limit : ℕ) (json : Bool) (input text : List ℕ) (s : Stream) (blocks : List Block) → IsAccepted limit input s blocks
+    → (names : Option (List ℕ)) × HasBoxes input names × (text ≡ file_text json names (facts_of s blocks)) → IsShown limit json input text
+shown_of limit json input text s blocks accepted is = record { stream = s; blocks = blocks; accepted = accepted; names = is.0; boxes = is.1; is = is.2 }
 
-pub shown_to_say : (asked : Show) (read text : List ℕ) (old new : Meaning) → IsFront (joined (old.holds asked.name)) read → IsUntouched old new → IsShown asked.json read text
-    → IsToSay ShowVerdict (IsShown asked.json) asked.name status.Done text old new
+pub shown_to_say : (asked : Show) (read text : List ℕ) (old new : Meaning) → IsFront asked.limit (joined (old.holds asked.name)) read → IsUntouched old new → IsShown asked.limit asked.json read text
+    → IsToSay (ShowVerdict asked.limit) (IsShown asked.limit asked.json) asked.name status.Done text old new
 shown_to_say asked read text old new front same is = record {
   input = read;
-  told = short_told (joined (old.holds asked.name)) read front is.accepted.within;
+  told = short_told asked.limit (joined (old.holds asked.name)) read front is.accepted.within;
   verdict = λ v. (is.stream, is.blocks, is.accepted);
   lines = λ done. is;
   line = λ other. absurd (other refl);
@@ -32,39 +32,39 @@ shown_to_say asked read text old new front same is = record {
 }
 
 -- ---- a file that is refused
-unfit_verdict : (input : List ℕ) (s : Status) → IsUnfit input s → IsVerdict s → ShowVerdict input s
-unfit_verdict input (status.Rule number place) is v = is
-unfit_verdict input (status.Limit number found) is v = is
-unfit_verdict input status.NoMemory is v = absurd v
-unfit_verdict input status.Done is v = absurd is
-unfit_verdict input status.Words is v = absurd is
-unfit_verdict input (status.Choice number place) is v = absurd is
-unfit_verdict input (status.Block number) is v = absurd is
-unfit_verdict input (status.Unlike how) is v = absurd is
-unfit_verdict input status.ReadFault is v = absurd is
-unfit_verdict input status.WriteFault is v = absurd is
+unfit_verdict : (limit : ℕ) (input : List ℕ) (s : Status) → IsUnfit limit input s → IsVerdict s → ShowVerdict limit input s
+unfit_verdict limit input (status.Rule number place) is v = is
+unfit_verdict limit input (status.Limit number found) is v = is
+unfit_verdict limit input status.NoMemory is v = absurd v
+unfit_verdict limit input status.Done is v = absurd is
+unfit_verdict limit input status.Words is v = absurd is
+unfit_verdict limit input (status.Choice number place) is v = absurd is
+unfit_verdict limit input (status.Block number) is v = absurd is
+unfit_verdict limit input (status.Unlike how) is v = absurd is
+unfit_verdict limit input status.ReadFault is v = absurd is
+unfit_verdict limit input status.WriteFault is v = absurd is
 
-unfit_other : (input : List ℕ) (s : Status) → IsUnfit input s → IsOther s
-unfit_other input (status.Rule number place) is = tt
-unfit_other input (status.Limit number found) is = tt
-unfit_other input status.NoMemory is = tt
-unfit_other input status.Done is = absurd is
-unfit_other input status.Words is = tt
-unfit_other input (status.Choice number place) is = tt
-unfit_other input (status.Block number) is = tt
-unfit_other input (status.Unlike how) is = tt
-unfit_other input status.ReadFault is = tt
-unfit_other input status.WriteFault is = tt
+unfit_other : (limit : ℕ) (input : List ℕ) (s : Status) → IsUnfit limit input s → IsOther s
+unfit_other limit input (status.Rule number place) is = tt
+unfit_other limit input (status.Limit number found) is = tt
+unfit_other limit input status.NoMemory is = tt
+unfit_other limit input status.Done is = absurd is
+unfit_other limit input status.Words is = tt
+unfit_other limit input (status.Choice number place) is = tt
+unfit_other limit input (status.Block number) is = tt
+unfit_other limit input (status.Unlike how) is = tt
+unfit_other limit input status.ReadFault is = tt
+unfit_other limit input status.WriteFault is = tt
 
-pub unshown_to_say : (asked : Show) (read : List ℕ) (s : Status) (old new : Meaning) → IsFront (joined (old.holds asked.name)) read → IsUntouched old new → IsUnfit read s
-    → IsToSay ShowVerdict (IsShown asked.json) asked.name s (line_of s 0 0) old new
+pub unshown_to_say : (asked : Show) (read : List ℕ) (s : Status) (old new : Meaning) → IsFront asked.limit (joined (old.holds asked.name)) read → IsUntouched old new → IsUnfit asked.limit read s
+    → IsToSay (ShowVerdict asked.limit) (IsShown asked.limit asked.json) asked.name s (line_of s 0 0) old new
 unshown_to_say asked read s old new front same is =
-    let input : IsUnfitInput (joined (old.holds asked.name)) s = unfit_told (joined (old.holds asked.name)) read s front is in
+    let input : IsUnfitInput asked.limit (joined (old.holds asked.name)) s = unfit_told asked.limit (joined (old.holds asked.name)) read s front is in
     record {
       input = input.input;
       told = input.told;
-      verdict = unfit_verdict input.input s input.is;
-      lines = λ done. absurd (undone s (unfit_other read s is) done);
+      verdict = unfit_verdict asked.limit input.input s input.is;
+      lines = λ done. absurd (undone s (unfit_other asked.limit read s is) done);
       line = λ other. refl;
       files = same;
     }

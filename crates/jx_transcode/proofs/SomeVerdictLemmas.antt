@@ -1,6 +1,7 @@
 -- Each input has a verdict.
-use Rattle.std.proofs.Common.{◌≡◌, ◌⊎◌, ◌≤◌, ◌<◌, ◌^◌, inl, inr, refl, sym, subst, arith, List, [], ◌∷◌, ℕ, Option, None, Some, length}
+use Rattle.std.proofs.Common.{◌≡◌, ◌⊎◌, ◌≤◌, ◌<◌, ◌+◌, ◌^◌, inl, inr, refl, sym, subst, arith, List, [], ◌∷◌, ℕ, Option, None, Some, length}
 use Rattle.std.proofs.lemmas.Bool.{cases_lt}
+use Rattle.jx_base.specs.Limits.{most_bytes}
 use Rattle.jx_base.specs.declared.pieces.Block.{Block}
 use Rattle.jx_marker.specs.Ranges.{AreBytes}
 use Rattle.jx_codestream.specs.declared.faults.StreamFault.{StreamFault}
@@ -34,7 +35,7 @@ use Rattle.jx_transcode.specs.declared.status.Status.{Status}
 use Rattle.jx_transcode.specs.declared.status.Status.TheVariants as status
 use Rattle.jx_transcode.specs.Aims.{Aim, MayBeAimed, rule_in}
 use Rattle.jx_transcode.specs.Judged.{BreaksTiles}
-use Rattle.jx_transcode.specs.Outcome.{Verdict, most_bytes}
+use Rattle.jx_transcode.specs.Outcome.{Verdict}
 use Rattle.jx_transcode.specs.Rewritten.{CanBePlanned, IsSpoiled, Reads, ReadsLeft, headers_of}
 use Rattle.jx_rounds.specs.Tiles.{IsRight}
 use Rattle.jx_transcode.proofs.ReducedLemmas.{never_memory}
@@ -47,7 +48,7 @@ use Rattle.jx_transcode.proofs.MadeVerdictLemmas.{makes_layers}
 pub record Laws : Type 0 where
   pub either : (b : List ℕ) → AreBytes b → ((f : StreamFault) × IsFirst b f) ⊎ ((s : Stream) × IsRead b s)
   pub blocks : (b : List ℕ) (s : Stream) → IsRead b s → length b < 2 ^ 64 → HasBlocks b s ⊎ HasFault b s
-  pub may : (b : List ℕ) (s : Stream) (blocks : List Block) → IsRead b s → length b ≤ 2 ^ 28 → totals_fault s ≡ None → IsGathered b s blocks → MayBePlanned s blocks
+  pub may : (b : List ℕ) (s : Stream) (blocks : List Block) → IsRead b s → length b ≤ most_bytes → totals_fault s ≡ None → IsGathered b s blocks → MayBePlanned s blocks
   pub left : (d : ℕ) (s : Stream) (blocks : List Block) → MayBePlanned s blocks → first_choice d s ≡ None → MayBePlanned (stream_left d s) (blocks_left d s blocks)
   pub planned : (s : Stream) (blocks : List Block) (w : Wanted) (o : Option Rule) → MayBePlanned s blocks → MayBeWanted w → MakesLayers o s blocks
       → CanBePlannedBy o s blocks w ⊎ ((e : PlanFault) × (e ≡ unplanned.NoMemory → ⊥) × HasPlanCause o s blocks w e)
@@ -100,7 +101,7 @@ module _ (laws : Laws) (w : Wanted) (r : Rule) (s : Stream) (blocks : List Block
     | inr is ↦ is
   ]
 
-module _ (laws : Laws) (aim : Aim) (may : MayBeAimed aim) (input : List ℕ) (short : length input ≤ most_bytes) where
+module _ (laws : Laws) (aim : Aim) (may : MayBeAimed aim) (input : List ℕ) (short : length input ≤ aim.limit) where
   stopped : (f : StreamFault) → IsFirst input f ⊎ BreaksTiles input f → (st : Status) × Verdict aim input st
   stopped (fault.Rule number place) cause = (status.Rule number place, (short, cause))
   stopped (fault.Limit number found) cause = (status.Limit number found, inl (inr (short, cause)))
@@ -163,7 +164,7 @@ module _ (laws : Laws) (aim : Aim) (may : MayBeAimed aim) (input : List ℕ) (sh
   -- so many resolutions can be left out, or a choice is in the way
   reduced : (s : Stream) (blocks : List Block) → Reads input s blocks → (o : Option ReduceFault) → first_choice aim.reduce s ≡ o → (st : Status) × Verdict aim input st
   reduced s blocks reads None free =
-      let small : length input ≤ 2 ^ 28 = short in
+      let small : length input ≤ most_bytes = omega (arith, short, may.limit) in
       let plan : MayBePlanned s blocks = laws.may input s blocks reads.read small reads.totals reads.gathered in
       planned (stream_left aim.reduce s) (blocks_left aim.reduce s blocks) (record { whole = s; all = blocks; reads = reads; free = free; stream = refl; blocks_are = refl }) (laws.left aim.reduce s blocks plan free)
   reduced s blocks reads (Some (unreduced.Choice number place)) cause = (status.Choice number place, (short, inr (inr (record { stream = s; blocks = blocks; reads = reads; cause = cause }))))
@@ -185,12 +186,12 @@ module _ (laws : Laws) (aim : Aim) (may : MayBeAimed aim) (input : List ℕ) (sh
   short_verdict bytes = elim (laws.either input bytes) [
     | inl first ↦ stopped first.0 (inl first.1)
     | inr read ↦
-        let few : length input ≤ 2 ^ 28 = short in
-        gathered read.0 read.1 (laws.blocks input read.0 read.1 (omega arith)) (totals_of read.0)
+        let few : length input ≤ most_bytes = omega (arith, short, may.limit) in
+        gathered read.0 read.1 (laws.blocks input read.0 read.1 (omega (arith, few))) (totals_of read.0)
   ]
 
 pub some_verdict : Laws → (aim : Aim) (input : List ℕ) → MayBeAimed aim → AreBytes input → (st : Status) × Verdict aim input st
-some_verdict laws aim input may bytes = elim (cases_lt most_bytes (length input)) [
-  | inl long ↦ (status.Limit 1 268435457, inl (inl (long, refl, refl)))
+some_verdict laws aim input may bytes = elim (cases_lt aim.limit (length input)) [
+  | inl long ↦ (status.Limit 1 (aim.limit + 1), inl (inl (long, refl, refl)))
   | inr short ↦ short_verdict laws aim may input short bytes
 ]

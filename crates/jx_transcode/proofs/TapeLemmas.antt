@@ -8,9 +8,7 @@ use Rattle.jx_rounds.specs.Rounds.{EndWithRound}
 use Rattle.jx_rounds.specs.Tiles.{Round, blocks_in_tile, first_in_tile, next_round, round_of}
 use Rattle.jx_rounds.proofs.FrontLemmas.{blocks_are}
 use Rattle.jx_tile.specs.Totals.{block_total}
-use Rattle.jx_transcode.specs.Aims.{Aim}
 use Rattle.jx_transcode.specs.Jp2Run.{raised}
-use Rattle.jx_transcode.specs.Outcome.{IsVerdict, Verdict, most_bytes}
 use Rattle.jx_transcode.specs.Rewritten.{ReadsLeft, round_start}
 use Rattle.jx_transcode.specs.RunTapes.{IsTapedAfter, IsTapedInPart, IsTapedInRounds, IsTapedToRound}
 use Rattle.jx_transcode.specs.declared.status.Status.{Status}
@@ -87,19 +85,6 @@ taped_late d input (status.Block number) entries is =
 taped_late d input status.ReadFault entries is = inl is
 taped_late d input status.WriteFault entries is = is
 taped_late d input status.NoMemory entries is = is
-
--- ---- a front that is too long has no tape
-pub long_taped : (aim : Aim) (s : Status) (read input : List ℕ) (entries : ℕ) → most_bytes < length read → (IsVerdict s → Verdict aim read s) → entries ≡ 0 → IsTapedAfter aim.reduce input s entries
-long_taped aim status.Done read input entries long verdict none = absurd (omega (arith, (verdict tt).0, long))
-long_taped aim status.Words read input entries long verdict none = none
-long_taped aim (status.Unlike how) read input entries long verdict none = none
-long_taped aim (status.Rule number place) read input entries long verdict none = none
-long_taped aim (status.Limit number found) read input entries long verdict none = none
-long_taped aim (status.Choice number place) read input entries long verdict none = absurd (omega (arith, (verdict tt).0, long))
-long_taped aim (status.Block number) read input entries long verdict none = absurd (omega (arith, (verdict tt).0, long))
-long_taped aim status.ReadFault read input entries long verdict none = none
-long_taped aim status.WriteFault read input entries long verdict none = inl none
-long_taped aim status.NoMemory read input entries long verdict none = inl none
 
 -- ---- a place of a rule that is raised
 pub raised_taped : (d : ℕ) (input : List ℕ) (from : ℕ) (s : Status) (entries : ℕ) → IsTapedAfter d input s entries → IsTapedAfter d input (raised from s) entries

@@ -1,6 +1,7 @@
--- What is asked of a codestream: how it is to be written, how many of its highest resolutions are left out, and the rule by which its coding
--- passes are put into layers.
+-- What is asked of a codestream: how it is to be written, how many of its highest resolutions are left out, the most bytes that it may have, and
+-- the rule by which its coding passes are put into layers.
 use Rattle.std.specs.Prelude.{◌<◌, ◌≤◌, ◌^◌, ℕ, List, Option, IfSome}
+use Rattle.jx_base.specs.Limits.{most_bytes}
 use Rattle.jx_base.specs.declared.pieces.Block.{Block}
 use Rattle.jx_codestream.specs.declared.Stream.{Stream}
 use Rattle.jx_layers.specs.declared.StreamFacts.{StreamFacts}
@@ -11,6 +12,8 @@ use Rattle.jx_options.specs.Wanted.{MayBeWanted, Wanted}
 pub record Aim : Type 0 where
   pub wanted : Wanted
   pub reduce : ℕ
+  -- a longer input is refused (limit 1)
+  pub limit : ℕ
   -- what the first planner that serves the words of layers makes of them for a stream; nothing where none serves them, or it makes none
   pub rule : StreamFacts → Option Rule
 
@@ -18,7 +21,8 @@ pub record Aim : Type 0 where
 abbrev pub rule_in : Aim → Stream → List Block → Option Rule
 rule_in aim s blocks = aim.rule (facts_of s blocks)
 
--- planners make 1 to 65,535 layers
+-- words ask for at most 2^32 - 1 bytes, and planners make 1 to 65,535 layers
 pub record MayBeAimed (aim : Aim) : Type 0 where
   pub may : MayBeWanted aim.wanted
+  pub limit : aim.limit ≤ most_bytes
   pub layers : (facts : StreamFacts) → IfSome (aim.rule facts) (λ r. (1 ≤ layers_by r facts) × (layers_by r facts < 2 ^ 16))

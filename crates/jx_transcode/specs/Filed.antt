@@ -1,5 +1,5 @@
 -- What a whole file, or one that was halted, leaves under a name.
-use Rattle.std.specs.Prelude.{◌≡◌, ◌⊎◌, ℕ, true, List, length, Result, Ok, Err}
+use Rattle.std.specs.Prelude.{◌≡◌, ◌⊎◌, ◌+◌, ℕ, true, List, [], length, Result, Ok, Err}
 use Rattle.jx_io.specs.Device.{Meaning}
 use Rattle.jx_io.specs.declared.refused.Refused.{Refused}
 use Rattle.jx_io.specs.declared.refused.Refused.TheVariants as refused
@@ -74,6 +74,14 @@ pub record IsAnswered (name : Text) (work : Work) (aim : Aim) (input : List ℕ)
   pub tape : IsRunTape work aim.reduce input entries
   pub whole : s ≡ status.Done → HasBlocks aim.reduce input (length entries)
   pub taped : IsTapedAfter aim.reduce input s (length entries)
+
+-- nothing was made of an input that is longer than it may be
+pub record IsTooLong (limit : ℕ) (s : Status) (blocks bytes : ℕ) (entries : List TapeEntry) (old new : Meaning) : Type 0 where
+  pub is : s ≡ status.Limit 1 (limit + 1)
+  pub blocks_are : blocks ≡ 0
+  pub bytes_are : bytes ≡ 0
+  pub tape : entries ≡ []
+  pub same : new ≡ old
 
 -- the status of a file that wasn't written to its end
 abbrev pub status_of : Halt → Status

@@ -12,25 +12,25 @@ use Rattle.jx_options.specs.declared.FormChoice.{FormChoice}
 use Rattle.jx_options.specs.declared.FormChoice.TheVariants as form
 use Rattle.jx_transcode.specs.Aims.{Aim}
 use Rattle.jx_transcode.specs.MakeRun.{TellsMade}
-use Rattle.jx_transcode.specs.Outcome.{IsBegun, IsMade, IsUntouched, IsVerdict, Verdict, most_bytes}
+use Rattle.jx_transcode.specs.Outcome.{IsBegun, IsMade, IsUntouched, IsVerdict, Verdict}
 use Rattle.jx_transcode.specs.Rewritten.{HasBlocks, IsRewritten}
 use Rattle.jx_transcode.specs.RunTapes.{IsRunTape, IsTapedAfter}
 use Rattle.jx_transcode.specs.declared.status.Status.{Status}
 use Rattle.jx_transcode.specs.declared.status.Status.TheVariants as status
 use Rattle.jx_rounds.specs.declared.tape.TapeEntry.{TapeEntry}
 
--- limit 1, then the first of the rules 32 to 35 that a file breaks before a codestream
-abbrev pub RefusesBoxes : List ℕ → Status → Type 0
-RefusesBoxes input (status.Limit number found) = (most_bytes < length input) × (number ≡ 1) × (found ≡ most_bytes + 1)
-RefusesBoxes input (status.Rule number place) = (length input ≤ most_bytes) × IsNextFault input 0 number place
-RefusesBoxes input status.Done = ⊥
-RefusesBoxes input status.Words = ⊥
-RefusesBoxes input (status.Unlike how) = ⊥
-RefusesBoxes input (status.Choice number place) = ⊥
-RefusesBoxes input (status.Block number) = ⊥
-RefusesBoxes input status.ReadFault = ⊥
-RefusesBoxes input status.WriteFault = ⊥
-RefusesBoxes input status.NoMemory = ⊥
+-- limit 1, by the most bytes that a file may have, then the first of the rules 32 to 35 that it breaks before a codestream
+abbrev pub RefusesBoxes : ℕ → List ℕ → Status → Type 0
+RefusesBoxes limit input (status.Limit number found) = (limit < length input) × (number ≡ 1) × (found ≡ limit + 1)
+RefusesBoxes limit input (status.Rule number place) = (length input ≤ limit) × IsNextFault input 0 number place
+RefusesBoxes limit input status.Done = ⊥
+RefusesBoxes limit input status.Words = ⊥
+RefusesBoxes limit input (status.Unlike how) = ⊥
+RefusesBoxes limit input (status.Choice number place) = ⊥
+RefusesBoxes limit input (status.Block number) = ⊥
+RefusesBoxes limit input status.ReadFault = ⊥
+RefusesBoxes limit input status.WriteFault = ⊥
+RefusesBoxes limit input status.NoMemory = ⊥
 
 -- the verdict of a codestream, of which the first byte stands at `from` in the file: the place of a rule is the file's
 abbrev pub VerdictAt : Aim → ℕ → List ℕ → Status → Type 0
@@ -48,8 +48,8 @@ VerdictAt aim from inner status.NoMemory = ⊥
 -- the status that a JP2 file has where the words are good and nothing fails
 abbrev pub Jp2Verdict : Aim → List ℕ → Status → Type 0
 Jp2Verdict aim input s =
-    RefusesBoxes input s
-    ⊎ ((length input ≤ most_bytes) × (boxed : Boxed) × IsCodestream input boxed × VerdictAt aim boxed.from (content input boxed) s)
+    RefusesBoxes aim.limit input s
+    ⊎ ((length input ≤ aim.limit) × (boxed : Boxed) × IsCodestream input boxed × VerdictAt aim boxed.from (content input boxed) s)
 
 -- the status that any file has
 abbrev pub FileVerdict : Aim → List ℕ → Status → Type 0
@@ -82,7 +82,7 @@ LeavesAround name kind aim input boxed out s blocks bytes old new =
 
 -- how a run ends on a file with this codestream
 pub record EndsAround (name : Text) (work : Work) (kind : FormChoice) (aim : Aim) (input : List ℕ) (boxed : Boxed) (s : Status) (blocks bytes : ℕ) (entries : List TapeEntry) (old new : Meaning) : Type 0 where
-  pub within : length input ≤ most_bytes
+  pub within : length input ≤ aim.limit
   pub found : IsCodestream input boxed
   pub verdict : IsVerdict s → VerdictAt aim boxed.from (content input boxed) s
   -- the output codestream after Done, which keeps what a written file keeps, and the blocks that are told
@@ -94,15 +94,15 @@ pub record EndsAround (name : Text) (work : Work) (kind : FormChoice) (aim : Aim
   pub taped : IsTapedAfter aim.reduce (content input boxed) s (length entries)
 
 -- how a run ends that comes to no codestream: nothing is made
-pub record EndsBefore (input : List ℕ) (s : Status) (blocks : ℕ) (entries : List TapeEntry) (old new : Meaning) : Type 0 where
-  pub verdict : IsVerdict s → RefusesBoxes input s
+pub record EndsBefore (limit : ℕ) (input : List ℕ) (s : Status) (blocks : ℕ) (entries : List TapeEntry) (old new : Meaning) : Type 0 where
+  pub verdict : IsVerdict s → RefusesBoxes limit input s
   pub none : blocks ≡ 0
   pub tape : entries ≡ []
   pub same : IsUntouched old new
 
 abbrev pub EndsJp2 : Text → Work → FormChoice → Aim → List ℕ → Status → ℕ → ℕ → List TapeEntry → Meaning → Meaning → Type 0
 EndsJp2 name work kind aim input s blocks bytes entries old new =
-    EndsBefore input s blocks entries old new ⊎ ((boxed : Boxed) × EndsAround name work kind aim input boxed s blocks bytes entries old new)
+    EndsBefore aim.limit input s blocks entries old new ⊎ ((boxed : Boxed) × EndsAround name work kind aim input boxed s blocks bytes entries old new)
 
 -- boxes that hold positions in the file were kept, after Done
 abbrev pub KeepsPositions : FormChoice → List ℕ → Status → Type 0

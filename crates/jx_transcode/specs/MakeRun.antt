@@ -36,9 +36,10 @@ wanted_made = record {
 abbrev pub work_made : Work
 work_made = record { threads = 4; window = 64; most = 2 ^ 28 }
 
--- with the rule that planners make of the word for layers
+-- with the rule that planners make of the word for layers; a generated codestream has at most as many bytes as an input may have where no words
+-- say otherwise
 abbrev pub aim_made : (List ℕ → StreamFacts → Option Rule) → Aim
-aim_made rule = record { wanted = wanted_made; reduce = 0; rule = rule (codes "one") }
+aim_made rule = record { wanted = wanted_made; reduce = 0; limit = 2 ^ 28; rule = rule (codes "one") }
 
 -- the generated codestream
 abbrev pub input_of : Make → List ℕ

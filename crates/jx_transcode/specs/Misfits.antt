@@ -13,13 +13,12 @@ use Rattle.jx_plan.specs.declared.faults.PlanFault.{PlanFault}
 use Rattle.jx_plan.specs.declared.faults.PlanFault.TheVariants as unplanned
 use Rattle.jx_plan.specs.Fits.{IsMisfitAt}
 use Rattle.jx_reduce.specs.Reduction.{stream_left}
-use Rattle.jx_transcode.specs.Outcome.{most_bytes}
 use Rattle.jx_transcode.specs.declared.status.Status.{Status}
 use Rattle.jx_transcode.specs.declared.status.Status.TheVariants as status
 
--- of a codestream without its d highest resolutions: its tile is that of the status
-pub record IsMisfitOf (precincts : Option (List ℕ)) (d : ℕ) (input : List ℕ) (s : Status) (m : Misfit) : Type 0 where
-  pub within : length input ≤ most_bytes
+-- of a codestream of so many bytes at most, without its d highest resolutions: its tile is that of the status
+pub record IsMisfitOf (precincts : Option (List ℕ)) (d limit : ℕ) (input : List ℕ) (s : Status) (m : Misfit) : Type 0 where
+  pub within : length input ≤ limit
   pub stream : Stream
   pub read : IsRead input stream
   pub tile : ℕ
@@ -27,18 +26,18 @@ pub record IsMisfitOf (precincts : Option (List ℕ)) (d : ℕ) (input : List �
   pub first : IsMisfitAt precincts (stream_left d stream) tile m
 
 -- of the codestream in a JP2 file
-abbrev pub IsMisfitOfJp2 : Option (List ℕ) → ℕ → List ℕ → Status → Misfit → Type 0
-IsMisfitOfJp2 precincts d input s m = (length input ≤ most_bytes) × (boxed : Boxed) × IsCodestream input boxed × IsMisfitOf precincts d (content input boxed) s m
+abbrev pub IsMisfitOfJp2 : Option (List ℕ) → ℕ → ℕ → List ℕ → Status → Misfit → Type 0
+IsMisfitOfJp2 precincts d limit input s m = (length input ≤ limit) × (boxed : Boxed) × IsCodestream input boxed × IsMisfitOf precincts d limit (content input boxed) s m
 
 -- of any file
-abbrev pub IsMisfitOfFile : Option (List ℕ) → ℕ → List ℕ → Status → Misfit → Type 0
-IsMisfitOfFile precincts d input s m = ((IsJp2 input → ⊥) × IsMisfitOf precincts d input s m) ⊎ (IsJp2 input × IsMisfitOfJp2 precincts d input s m)
+abbrev pub IsMisfitOfFile : Option (List ℕ) → ℕ → ℕ → List ℕ → Status → Misfit → Type 0
+IsMisfitOfFile precincts d limit input s m = ((IsJp2 input → ⊥) × IsMisfitOf precincts d limit input s m) ⊎ (IsJp2 input × IsMisfitOfJp2 precincts d limit input s m)
 
 -- of the file named IN: the input is what it holds at the beginning, where that is told
 pub record TellsMisfit (request : Request) (m : Misfit) (s : Status) (old : Meaning) : Type 0 where
   pub input : List ℕ
   pub told : IfSome (joined (old.holds request.from)) (λ bytes. input ≡ bytes)
-  pub is : IsMisfitOfFile request.wanted.precincts request.reduce input s m
+  pub is : IsMisfitOfFile request.wanted.precincts request.reduce request.limit input s m
 
 -- ---- inner
 

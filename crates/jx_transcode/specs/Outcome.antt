@@ -1,5 +1,5 @@
 -- What becomes of an input: its verdict, the line said, and what stands afterwards; and how a run ends over words that are no command.
-use Rattle.std.specs.Prelude.{◌≡◌, ◌⊎◌, ℕ, true, ◌+◌, ◌^◌, ◌<◌, ◌≤◌, List, [], ◌++◌, length, Option, codes}
+use Rattle.std.specs.Prelude.{◌≡◌, ◌⊎◌, ℕ, true, ◌+◌, ◌<◌, ◌≤◌, List, [], ◌++◌, length, Option, codes}
 use Rattle.std.specs.Option.{option_map}
 use Rattle.std.specs.Fmt.{decimal}
 use Rattle.jx_io.specs.Causes.{Rose}
@@ -15,10 +15,6 @@ use Rattle.jx_transcode.specs.Progress.{HasWritten}
 use Rattle.jx_transcode.specs.Judged.{Violates, Passes}
 use Rattle.jx_transcode.specs.declared.status.Status.TheVariants as status
 use Rattle.jx_plan.specs.declared.faults.PlanFault.TheVariants as unplanned
-
--- the most bytes that an input may have
-abbrev pub most_bytes : ℕ
-most_bytes = 2 ^ 28
 
 -- the number with which the program ends
 abbrev pub number_of : Status → ℕ
@@ -46,22 +42,22 @@ IsVerdict status.ReadFault = ⊥
 IsVerdict status.WriteFault = ⊥
 IsVerdict status.NoMemory = ⊥
 
--- limit 1 is passed, or a limit that is passed first in the headers or the tile data
-abbrev pub PassesLimit : List ℕ → ℕ → ℕ → Type 0
-PassesLimit input number found =
-    ((most_bytes < length input) × (number ≡ 1) × (found ≡ most_bytes + 1))
-    ⊎ ((length input ≤ most_bytes) × Passes input number found)
+-- limit 1 is passed, or a limit that is passed first in the headers or the tile data; an input may have so many bytes
+abbrev pub PassesLimit : ℕ → List ℕ → ℕ → ℕ → Type 0
+PassesLimit limit input number found =
+    ((limit < length input) × (number ≡ 1) × (found ≡ limit + 1))
+    ⊎ ((length input ≤ limit) × Passes input number found)
 
 -- the status that an input has where the words are good and nothing fails: limit 1, then the first rule that it violates or limit that it
 -- passes in its headers or its tile data, then choice 8 and choice 9; then of what is left of it choice 1, choice 3, choice 2, choice 6, limit
 -- 7, choice 4 and choice 5, then tile by tile a block that is coded anew and has a wrong segmentation symbol, and a tile-part that would be
 -- too long
 abbrev pub Verdict : Aim → List ℕ → Status → Type 0
-Verdict aim input status.Done = (length input ≤ most_bytes) × (out : List ℕ) × IsRewritten aim input out
-Verdict aim input (status.Rule number place) = (length input ≤ most_bytes) × Violates input number place
-Verdict aim input (status.Limit number found) = PassesLimit input number found ⊎ ((length input ≤ most_bytes) × IsUnplanned aim input (unplanned.Limit number found))
-Verdict aim input (status.Choice number place) = (length input ≤ most_bytes) × (((number ≡ 7) × IsTooLongAt aim input place) ⊎ (IsUnplanned aim input (unplanned.Choice number place) ⊎ IsIrreducible aim.reduce input number place))
-Verdict aim input (status.Block number) = (length input ≤ most_bytes) × IsBad aim input number
+Verdict aim input status.Done = (length input ≤ aim.limit) × (out : List ℕ) × IsRewritten aim input out
+Verdict aim input (status.Rule number place) = (length input ≤ aim.limit) × Violates input number place
+Verdict aim input (status.Limit number found) = PassesLimit aim.limit input number found ⊎ ((length input ≤ aim.limit) × IsUnplanned aim input (unplanned.Limit number found))
+Verdict aim input (status.Choice number place) = (length input ≤ aim.limit) × (((number ≡ 7) × IsTooLongAt aim input place) ⊎ (IsUnplanned aim input (unplanned.Choice number place) ⊎ IsIrreducible aim.reduce input number place))
+Verdict aim input (status.Block number) = (length input ≤ aim.limit) × IsBad aim input number
 Verdict aim input status.Words = ⊥
 Verdict aim input (status.Unlike how) = ⊥
 Verdict aim input status.ReadFault = ⊥
@@ -138,13 +134,13 @@ IsRefused blocks old new = (blocks ≡ 0) × IsUntouched old new
 
 -- the input was accepted, and its output may have been begun
 pub record IsAborted (name : Text) (aim : Aim) (input : List ℕ) (blocks : ℕ) (old new : Meaning) : Type 0 where
-  pub within : length input ≤ most_bytes
+  pub within : length input ≤ aim.limit
   pub count : HasBlocks aim.reduce input blocks
   pub stands : LeavesBegun name aim input old new
 
 -- nothing was made of an input that isn't planned
 pub record IsOver (aim : Aim) (input : List ℕ) (blocks : ℕ) (old new : Meaning) : Type 0 where
-  pub within : length input ≤ most_bytes
+  pub within : length input ≤ aim.limit
   pub why : PlanFault
   pub is : IsUnplanned aim input why
   pub caused : why ≡ unplanned.NoMemory → ⊥
@@ -153,7 +149,7 @@ pub record IsOver (aim : Aim) (input : List ℕ) (blocks : ℕ) (old new : Meani
 
 -- nor of one out of which so many resolutions can't be left
 pub record IsOverAll (aim : Aim) (input : List ℕ) (blocks : ℕ) (old new : Meaning) : Type 0 where
-  pub within : length input ≤ most_bytes
+  pub within : length input ≤ aim.limit
   pub number : ℕ
   pub place : ℕ
   pub is : IsIrreducible aim.reduce input number place

@@ -17,7 +17,7 @@ use Rattle.jx_same.specs.declared.answer.Answer.TheVariants as answer
 use Rattle.jx_same.specs.declared.answer.Difference.{Difference}
 use Rattle.jx_same.specs.declared.answer.Field.TheVariants as field
 use Rattle.jx_transcode.specs.Judged.{Passes, Violates}
-use Rattle.jx_transcode.specs.Outcome.{IsUntouched, IsVerdict, Says, line_of, most_bytes}
+use Rattle.jx_transcode.specs.Outcome.{IsUntouched, IsVerdict, Says, line_of}
 use Rattle.jx_transcode.specs.Rewritten.{Reads}
 use Rattle.jx_transcode.specs.declared.status.Status.{Status}
 use Rattle.jx_transcode.specs.declared.status.Status.TheVariants as status
@@ -31,55 +31,55 @@ HasCodestream input from inner =
     ((IsJp2 input → ⊥) × (from ≡ 0) × (inner ≡ input))
     ⊎ (IsJp2 input × (boxed : Boxed) × IsCodestream input boxed × (from ≡ boxed.from) × (inner ≡ content input boxed))
 
--- a file of at most 2^32 - 1 bytes with a well-formed codestream within the limits
-pub record IsAccepted (input : List ℕ) (s : Stream) (blocks : List Block) : Type 0 where
-  pub within : length input ≤ most_bytes
+-- a file of so many bytes at most, with a well-formed codestream within the other limits
+pub record IsAccepted (limit : ℕ) (input : List ℕ) (s : Stream) (blocks : List Block) : Type 0 where
+  pub within : length input ≤ limit
   pub from : ℕ
   pub inner : List ℕ
   pub has : HasCodestream input from inner
   pub reads : Reads inner s blocks
 
 -- the first rule that is violated: for a JP2 file one of the rules 32 to 35, then those of the codestream; the place is the file's
-abbrev pub BreaksRule : List ℕ → ℕ → ℕ → Type 0
-BreaksRule input number place =
-    (length input ≤ most_bytes)
+abbrev pub BreaksRule : ℕ → List ℕ → ℕ → ℕ → Type 0
+BreaksRule limit input number place =
+    (length input ≤ limit)
     × ((IsJp2 input × IsNextFault input 0 number place)
     ⊎ ((from : ℕ) × (inner : List ℕ) × (at : ℕ) × HasCodestream input from inner × (place ≡ from + at) × Violates inner number at))
 
 -- limit 1, or the limit that the codestream passes first
-abbrev pub BreaksLimit : List ℕ → ℕ → ℕ → Type 0
-BreaksLimit input number found =
-    ((most_bytes < length input) × (number ≡ 1) × (found ≡ most_bytes + 1))
-    ⊎ ((length input ≤ most_bytes) × (from : ℕ) × (inner : List ℕ) × HasCodestream input from inner × Passes inner number found)
+abbrev pub BreaksLimit : ℕ → List ℕ → ℕ → ℕ → Type 0
+BreaksLimit limit input number found =
+    ((limit < length input) × (number ≡ 1) × (found ≡ limit + 1))
+    ⊎ ((length input ≤ limit) × (from : ℕ) × (inner : List ℕ) × HasCodestream input from inner × Passes inner number found)
 
-abbrev pub IsGoodInput : List ℕ → Type 0
-IsGoodInput input = (s : Stream) × (blocks : List Block) × IsAccepted input s blocks
+abbrev pub IsGoodInput : ℕ → List ℕ → Type 0
+IsGoodInput limit input = (s : Stream) × (blocks : List Block) × IsAccepted limit input s blocks
 
 -- ---- the verdict on two files
 -- both are accepted, and this is the answer over the meanings of their codestreams
-pub record AreAnswered (first second : List ℕ) (told : Answer) : Type 0 where
+pub record AreAnswered (limit : ℕ) (first second : List ℕ) (told : Answer) : Type 0 where
   pub stream : Stream
   pub blocks : List Block
-  pub accepted : IsAccepted first stream blocks
+  pub accepted : IsAccepted limit first stream blocks
   pub other : Stream
   pub others : List Block
-  pub accepted_too : IsAccepted second other others
+  pub accepted_too : IsAccepted limit second other others
   pub is : told ≡ answer_of stream (meaning_of stream blocks) (meaning_of other others)
 
--- the status that two files have where nothing fails: the first's refusal, then the second's, then the answer
-abbrev pub SameVerdict : List ℕ → List ℕ → Status → Type 0
-SameVerdict first second status.Done = AreAnswered first second answer.Same
-SameVerdict first second (status.Rule number place) = BreaksRule first number place
-SameVerdict first second (status.Limit number found) = BreaksLimit first number found
-SameVerdict first second (status.Unlike (unlike.Differs difference)) = AreAnswered first second (answer.Differs difference)
-SameVerdict first second (status.Unlike (unlike.SecondRule number place)) = IsGoodInput first × BreaksRule second number place
-SameVerdict first second (status.Unlike (unlike.SecondLimit number found)) = IsGoodInput first × BreaksLimit second number found
-SameVerdict first second status.Words = ⊥
-SameVerdict first second (status.Choice number place) = ⊥
-SameVerdict first second (status.Block number) = ⊥
-SameVerdict first second status.ReadFault = ⊥
-SameVerdict first second status.WriteFault = ⊥
-SameVerdict first second status.NoMemory = ⊥
+-- the status that two files have where nothing fails: the first's refusal, then the second's, then the answer; each may have so many bytes
+abbrev pub SameVerdict : ℕ → List ℕ → List ℕ → Status → Type 0
+SameVerdict limit first second status.Done = AreAnswered limit first second answer.Same
+SameVerdict limit first second (status.Rule number place) = BreaksRule limit first number place
+SameVerdict limit first second (status.Limit number found) = BreaksLimit limit first number found
+SameVerdict limit first second (status.Unlike (unlike.Differs difference)) = AreAnswered limit first second (answer.Differs difference)
+SameVerdict limit first second (status.Unlike (unlike.SecondRule number place)) = IsGoodInput limit first × BreaksRule limit second number place
+SameVerdict limit first second (status.Unlike (unlike.SecondLimit number found)) = IsGoodInput limit first × BreaksLimit limit second number found
+SameVerdict limit first second status.Words = ⊥
+SameVerdict limit first second (status.Choice number place) = ⊥
+SameVerdict limit first second (status.Block number) = ⊥
+SameVerdict limit first second status.ReadFault = ⊥
+SameVerdict limit first second status.WriteFault = ⊥
+SameVerdict limit first second status.NoMemory = ⊥
 
 -- a first component of this size, and the same without its d highest resolutions
 abbrev pub fewer_difference : ℕ → CompSize → Difference
@@ -91,17 +91,17 @@ same_line status.Done = codes "same\n"
 same_line s = line_of s 0 0
 
 -- how many blocks the first file has
-pub record HasBlocksOf (first : List ℕ) (count : ℕ) : Type 0 where
+pub record HasBlocksOf (limit : ℕ) (first : List ℕ) (count : ℕ) : Type 0 where
   pub stream : Stream
   pub blocks : List Block
-  pub accepted : IsAccepted first stream blocks
+  pub accepted : IsAccepted limit first stream blocks
   pub count_is : count ≡ length blocks
 
 -- the blocks that are told: those of the first file after an answer, else none
-abbrev pub TellsBlocks : List ℕ → Status → ℕ → Type 0
-TellsBlocks first status.Done blocks = HasBlocksOf first blocks
-TellsBlocks first (status.Unlike (unlike.Differs difference)) blocks = HasBlocksOf first blocks
-TellsBlocks first s blocks = blocks ≡ 0
+abbrev pub TellsBlocks : ℕ → List ℕ → Status → ℕ → Type 0
+TellsBlocks limit first status.Done blocks = HasBlocksOf limit first blocks
+TellsBlocks limit first (status.Unlike (unlike.Differs difference)) blocks = HasBlocksOf limit first blocks
+TellsBlocks limit first s blocks = blocks ≡ 0
 
 -- how a run over good words of `same` ends on two inputs, which are what the files of these names hold, where that is told
 pub record EndsCompared (names : Pair) (s : Status) (blocks : ℕ) (entries : List TapeEntry) (old new : Meaning) (before now : Option (List ℕ)) : Type 0 where
@@ -109,8 +109,8 @@ pub record EndsCompared (names : Pair) (s : Status) (blocks : ℕ) (entries : Li
   pub second : List ℕ
   pub told : IfSome (joined (old.holds names.first)) (λ bytes. first ≡ bytes)
   pub told_too : IfSome (joined (old.holds names.second)) (λ bytes. second ≡ bytes)
-  pub verdict : IsVerdict s → SameVerdict first second s
-  pub counts : TellsBlocks first s blocks
+  pub verdict : IsVerdict s → SameVerdict names.limit first second s
+  pub counts : TellsBlocks names.limit first s blocks
   pub said : Says s (same_line s) before now
   pub files : IsUntouched old new
   pub tape : entries ≡ []
@@ -121,17 +121,17 @@ IsOfFirst s = ((number : ℕ) × (place : ℕ) × (s ≡ status.Rule number plac
 
 -- ---- inner: what is known before anything is said
 -- why a file is refused; want of memory is free
-abbrev pub IsUnfit : List ℕ → Status → Type 0
-IsUnfit input (status.Rule number place) = BreaksRule input number place
-IsUnfit input (status.Limit number found) = BreaksLimit input number found
-IsUnfit input status.NoMemory = Unit {0}
-IsUnfit input status.Done = ⊥
-IsUnfit input status.Words = ⊥
-IsUnfit input (status.Choice number place) = ⊥
-IsUnfit input (status.Block number) = ⊥
-IsUnfit input (status.Unlike how) = ⊥
-IsUnfit input status.ReadFault = ⊥
-IsUnfit input status.WriteFault = ⊥
+abbrev pub IsUnfit : ℕ → List ℕ → Status → Type 0
+IsUnfit limit input (status.Rule number place) = BreaksRule limit input number place
+IsUnfit limit input (status.Limit number found) = BreaksLimit limit input number found
+IsUnfit limit input status.NoMemory = Unit {0}
+IsUnfit limit input status.Done = ⊥
+IsUnfit limit input status.Words = ⊥
+IsUnfit limit input (status.Choice number place) = ⊥
+IsUnfit limit input (status.Block number) = ⊥
+IsUnfit limit input (status.Unlike how) = ⊥
+IsUnfit limit input status.ReadFault = ⊥
+IsUnfit limit input status.WriteFault = ⊥
 
 -- the same of the second file
 abbrev pub second_status : Status → Status
@@ -153,31 +153,31 @@ answer_status (Ok (answer.Differs difference)) = status.Unlike (unlike.Differs d
 answer_status (Err e) = status.NoMemory
 
 -- a codestream is answered by the second file
-pub record IsAnsweredBy (s : Stream) (blocks : List Block) (second : List ℕ) (told : Answer) : Type 0 where
+pub record IsAnsweredBy (s : Stream) (blocks : List Block) (limit : ℕ) (second : List ℕ) (told : Answer) : Type 0 where
   pub other : Stream
   pub others : List Block
-  pub accepted : IsAccepted second other others
+  pub accepted : IsAccepted limit second other others
   pub is : told ≡ answer_of s (meaning_of s blocks) (meaning_of other others)
 
 -- the status of a second file beside a codestream; a fault of reading and want of memory are free
-abbrev pub SecondVerdict : Stream → List Block → List ℕ → Status → Type 0
-SecondVerdict s blocks second status.Done = IsAnsweredBy s blocks second answer.Same
-SecondVerdict s blocks second (status.Unlike (unlike.Differs difference)) = IsAnsweredBy s blocks second (answer.Differs difference)
-SecondVerdict s blocks second (status.Unlike (unlike.SecondRule number place)) = BreaksRule second number place
-SecondVerdict s blocks second (status.Unlike (unlike.SecondLimit number found)) = BreaksLimit second number found
-SecondVerdict s blocks second status.ReadFault = Unit {0}
-SecondVerdict s blocks second status.NoMemory = Unit {0}
-SecondVerdict s blocks second status.Words = ⊥
-SecondVerdict s blocks second (status.Rule number place) = ⊥
-SecondVerdict s blocks second (status.Limit number found) = ⊥
-SecondVerdict s blocks second (status.Choice number place) = ⊥
-SecondVerdict s blocks second (status.Block number) = ⊥
-SecondVerdict s blocks second status.WriteFault = ⊥
+abbrev pub SecondVerdict : Stream → List Block → ℕ → List ℕ → Status → Type 0
+SecondVerdict s blocks limit second status.Done = IsAnsweredBy s blocks limit second answer.Same
+SecondVerdict s blocks limit second (status.Unlike (unlike.Differs difference)) = IsAnsweredBy s blocks limit second (answer.Differs difference)
+SecondVerdict s blocks limit second (status.Unlike (unlike.SecondRule number place)) = BreaksRule limit second number place
+SecondVerdict s blocks limit second (status.Unlike (unlike.SecondLimit number found)) = BreaksLimit limit second number found
+SecondVerdict s blocks limit second status.ReadFault = Unit {0}
+SecondVerdict s blocks limit second status.NoMemory = Unit {0}
+SecondVerdict s blocks limit second status.Words = ⊥
+SecondVerdict s blocks limit second (status.Rule number place) = ⊥
+SecondVerdict s blocks limit second (status.Limit number found) = ⊥
+SecondVerdict s blocks limit second (status.Choice number place) = ⊥
+SecondVerdict s blocks limit second (status.Block number) = ⊥
+SecondVerdict s blocks limit second status.WriteFault = ⊥
 
-pub record IsSecondTold (name : Text) (s : Stream) (blocks : List Block) (t : Status) (old new : Meaning) : Type 0 where
+pub record IsSecondTold (limit : ℕ) (name : Text) (s : Stream) (blocks : List Block) (t : Status) (old new : Meaning) : Type 0 where
   pub second : List ℕ
   pub told : IfSome (joined (old.holds name)) (λ bytes. second ≡ bytes)
-  pub verdict : SecondVerdict s blocks second t
+  pub verdict : SecondVerdict s blocks limit second t
   pub files : IsUntouched old new
 
 -- the blocks that are told, by how many the first file has
@@ -201,6 +201,6 @@ pub record IsToTell (names : Pair) (s : Status) (count : ℕ) (old new : Meaning
   pub second : List ℕ
   pub told : IfSome (joined (old.holds names.first)) (λ bytes. first ≡ bytes)
   pub told_too : IfSome (joined (old.holds names.second)) (λ bytes. second ≡ bytes)
-  pub verdict : IsVerdict s → SameVerdict first second s
-  pub counts : TellsBlocks first s (blocks_after s count)
+  pub verdict : IsVerdict s → SameVerdict names.limit first second s
+  pub counts : TellsBlocks names.limit first s (blocks_after s count)
   pub files : IsUntouched old new

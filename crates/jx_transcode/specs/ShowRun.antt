@@ -15,18 +15,18 @@ use Rattle.jx_transcode.specs.declared.status.Status.{Status}
 use Rattle.jx_transcode.specs.declared.status.Status.TheVariants as status
 use Rattle.jx_rounds.specs.declared.tape.TapeEntry.{TapeEntry}
 
--- the status that an input has where nothing fails: Done, or the rule that it violates or limit that it passes first
-abbrev pub ShowVerdict : List ℕ → Status → Type 0
-ShowVerdict input status.Done = IsGoodInput input
-ShowVerdict input (status.Rule number place) = BreaksRule input number place
-ShowVerdict input (status.Limit number found) = BreaksLimit input number found
-ShowVerdict input status.Words = ⊥
-ShowVerdict input (status.Unlike how) = ⊥
-ShowVerdict input (status.Choice number place) = ⊥
-ShowVerdict input (status.Block number) = ⊥
-ShowVerdict input status.ReadFault = ⊥
-ShowVerdict input status.WriteFault = ⊥
-ShowVerdict input status.NoMemory = ⊥
+-- the status that an input has where nothing fails: Done, or the rule that it violates or limit that it passes first; it may have so many bytes
+abbrev pub ShowVerdict : ℕ → List ℕ → Status → Type 0
+ShowVerdict limit input status.Done = IsGoodInput limit input
+ShowVerdict limit input (status.Rule number place) = BreaksRule limit input number place
+ShowVerdict limit input (status.Limit number found) = BreaksLimit limit input number found
+ShowVerdict limit input status.Words = ⊥
+ShowVerdict limit input (status.Unlike how) = ⊥
+ShowVerdict limit input (status.Choice number place) = ⊥
+ShowVerdict limit input (status.Block number) = ⊥
+ShowVerdict limit input status.ReadFault = ⊥
+ShowVerdict limit input status.WriteFault = ⊥
+ShowVerdict limit input status.NoMemory = ⊥
 
 -- the names of a JP2 file's boxes; a codestream has none
 abbrev pub HasBoxes : List ℕ → Option (List ℕ) → Type 0
@@ -34,14 +34,14 @@ HasBoxes input None = IsJp2 input → ⊥
 HasBoxes input (Some names) = IsJp2 input × HasNames input names
 
 -- what is told of an input: the facts of its codestream, behind its boxes' names
-pub record IsShown (json : Bool) (input text : List ℕ) : Type 0 where
+pub record IsShown (limit : ℕ) (json : Bool) (input text : List ℕ) : Type 0 where
   pub stream : Stream
   pub blocks : List Block
-  pub accepted : IsAccepted input stream blocks
+  pub accepted : IsAccepted limit input stream blocks
   pub names : Option (List ℕ)
   pub boxes : HasBoxes input names
   pub is : text ≡ file_text json names (facts_of stream blocks)
 
 -- how a run over good words of `show` ends
 abbrev pub EndsShown : Show → Status → ℕ → List TapeEntry → Meaning → Meaning → Option (List ℕ) → Option (List ℕ) → Type 0
-EndsShown asked = EndsInLines ShowVerdict (IsShown asked.json) asked.name
+EndsShown asked = EndsInLines (ShowVerdict asked.limit) (IsShown asked.limit asked.json) asked.name

@@ -18,7 +18,7 @@ use Rattle.jx_rounds.specs.declared.tape.TapeEntry.{TapeEntry}
 
 -- what good words ask for, with the rule that the planners make of their words of layers
 abbrev pub aim_of : Request → (List ℕ → StreamFacts → Option Rule) → Aim
-aim_of request rule = record { wanted = request.wanted; reduce = request.reduce; rule = rule request.wanted.layers }
+aim_of request rule = record { wanted = request.wanted; reduce = request.reduce; limit = request.limit; rule = rule request.wanted.layers }
 
 -- how a run ends on a codestream
 pub record EndsBare (name : Text) (work : Work) (aim : Aim) (input : List ℕ) (s : Status) (blocks bytes : ℕ) (entries : List TapeEntry) (old new : Meaning) : Type 0 where

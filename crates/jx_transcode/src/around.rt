@@ -2,20 +2,20 @@
 
 ghost use Rattle.std.specs.Prelude.{◌≡◌, ◌⊎◌, ◌≤◌, ◌<◌, ◌^◌, ℕ, List, [], length, map, IfErr, IfOk, IfSome, IsErrOf, None, OnErr, OnOk};
 ghost use Rattle.std.specs.List.{concat};
+ghost use Rattle.jx_base.specs.Limits.{most_bytes};
 ghost use Rattle.jx_io.specs.Causes.{Rose};
 ghost use Rattle.jx_jp2.specs.Codestream.{IsCodestream, content};
 ghost use Rattle.jx_options.specs.Wanted.{MayBeWanted};
 ghost use Rattle.jx_options.specs.Work.{MayBeWork};
 ghost use Rattle.jx_plan.specs.Planned.{chosen};
 ghost use Rattle.jx_rounds.specs.Taken.{SomeFront, followed_by};
-ghost use Rattle.jx_transcode.specs.Filed.{unwritten_as};
+ghost use Rattle.jx_transcode.specs.Filed.{IsTooLong, unwritten_as};
 ghost use Rattle.jx_transcode.specs.Jp2Run.{EndsAround, EndsJp2, IsPlaced, file_in, raised};
 ghost use Rattle.jx_transcode.specs.MakeRun.{IsLastMade};
 ghost use Rattle.jx_transcode.specs.Misfits.{IsMisfitOf, IsMisfitOfJp2};
-ghost use Rattle.jx_transcode.specs.Outcome.{IsBegun, IsMade, most_bytes};
+ghost use Rattle.jx_transcode.specs.Outcome.{IsBegun, IsMade};
 
 use crate::Status;
-use crate::device::MOST;
 use crate::rewrite::{Ending, answer};
 use jx_io::{Files, Gate, Refused, SureFiles};
 use jx_jp2::laws::codestream_lies_within;
@@ -184,24 +184,27 @@ fn answer_around<R: Threads + Wait + Sync, G: Gate + Sync, F: Files>(
     form: FormChoice,
     options: &Options,
     reduce: u8,
+    limit: u32,
     planners: &mut [Box<dyn LayerPlanner>],
 ) -> Ending
     requires creates { F.can_create files.old to.now }
-    requires within { length input.now ≤ most_bytes }
+    requires within { length input.now ≤ limit }
     requires found { IsCodestream input.now boxed.now }
     requires wanted { MayBeWanted options.now }
     requires few { reduce ≤ 32 }
     requires work { MayBeWork crew.now.work }
-    ensures answer { EndsAround to.now crew.now.work form (record { wanted = options.now; reduce = reduce; rule = λ facts. chosen (λ b. serves_text b options.now.layers) (λ b. rule_of b options.now.layers facts) planners.old }) input.now boxed.now result.status result.blocks result.bytes result.tape.items (F.meaning files.old) (F.meaning files.new) }
+    ensures answer { EndsAround to.now crew.now.work form (record { wanted = options.now; reduce = reduce; limit = limit; rule = λ facts. chosen (λ b. serves_text b options.now.layers) (λ b. rule_of b options.now.layers facts) planners.old }) input.now boxed.now result.status result.blocks result.bytes result.tape.items (F.meaning files.old) (F.meaning files.new) }
     ensures cause { result.status ≡ Status.WriteFault → Rose (F.write_faults files.old) (F.write_faults files.new) }
     ensures rose { F.write_faults files.old < F.write_faults files.new → result.status ≡ Status.WriteFault }
     ensures read { (result.status ≡ Status.ReadFault → ⊥) × (result.status ≡ Status.Words → ⊥) }
     ensures other { F.read_faults files.new ≡ F.read_faults files.old }
-    ensures misfit { IfSome result.misfit (λ misfit. IsMisfitOf options.now.precincts reduce (content input.now boxed.now) result.status misfit) }
+    ensures misfit { IfSome result.misfit (λ misfit. IsMisfitOf options.now.precincts reduce limit (content input.now boxed.now) result.status misfit) }
 {
     let inner = content_of(input, boxed);
     let mut made = SureFiles::new(alloc);
-    let ending = answer(crew, alloc, &mut made, inner, "", options, reduce, planners);
+    let ending = answer(
+        crew, alloc, &mut made, inner, "", options, reduce, limit, planners,
+    );
     match ending.status {
         Status::Done => {
             let out = bytes_made(&made);
@@ -218,7 +221,7 @@ fn answer_around<R: Threads + Wait + Sync, G: Gate + Sync, F: Files>(
     }
 }
 
-/// What becomes of the bytes of a JP2 file that were read, at most `MOST`.
+/// What becomes of a JP2 file that may have `limit` bytes, of which these were read.
 pub fn answer_jp2<R: Threads + Wait + Sync, G: Gate + Sync, F: Files>(
     crew: &Crew<'_, R, G>,
     alloc: Global,
@@ -228,26 +231,27 @@ pub fn answer_jp2<R: Threads + Wait + Sync, G: Gate + Sync, F: Files>(
     form: FormChoice,
     options: &Options,
     reduce: u8,
+    limit: u32,
     planners: &mut [Box<dyn LayerPlanner>],
 ) -> Ending
     requires creates { F.can_create files.old to.now }
     requires wanted { MayBeWanted options.now }
     requires few { reduce ≤ 32 }
     requires work { MayBeWork crew.now.work }
-    ensures answer { EndsJp2 to.now crew.now.work form (record { wanted = options.now; reduce = reduce; rule = λ facts. chosen (λ b. serves_text b options.now.layers) (λ b. rule_of b options.now.layers facts) planners.old }) input.now result.status result.blocks result.bytes result.tape.items (F.meaning files.old) (F.meaning files.new) }
-    ensures long { most_bytes < length input.now → result.tape.items ≡ [] }
+    ensures answer { EndsJp2 to.now crew.now.work form (record { wanted = options.now; reduce = reduce; limit = limit; rule = λ facts. chosen (λ b. serves_text b options.now.layers) (λ b. rule_of b options.now.layers facts) planners.old }) input.now result.status result.blocks result.bytes result.tape.items (F.meaning files.old) (F.meaning files.new) }
+    ensures long { limit < length input.now → IsTooLong limit result.status result.blocks result.bytes result.tape.items (F.meaning files.old) (F.meaning files.new) }
     ensures cause { result.status ≡ Status.WriteFault → Rose (F.write_faults files.old) (F.write_faults files.new) }
     ensures rose { F.write_faults files.old < F.write_faults files.new → result.status ≡ Status.WriteFault }
     ensures read { (result.status ≡ Status.ReadFault → ⊥) × (result.status ≡ Status.Words → ⊥) }
     ensures other { F.read_faults files.new ≡ F.read_faults files.old }
-    ensures misfit { IfSome result.misfit (λ misfit. IsMisfitOfJp2 options.now.precincts reduce input.now result.status misfit) }
+    ensures misfit { IfSome result.misfit (λ misfit. IsMisfitOfJp2 options.now.precincts reduce limit input.now result.status misfit) }
 {
-    if input.len() >= MOST {
-        return Ending::refused(alloc, Status::too_long());
+    if input.len() > limit as usize {
+        return Ending::refused(alloc, Status::too_long(limit));
     }
     match find(input) {
         Ok(boxed) => answer_around(
-            crew, alloc, files, input, &boxed, to, form, options, reduce, planners,
+            crew, alloc, files, input, &boxed, to, form, options, reduce, limit, planners,
         ),
         Err(BoxFault::Rule { number, place }) => Ending::refused(
             alloc,

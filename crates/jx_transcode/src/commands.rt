@@ -11,7 +11,7 @@ pub mod transcode;
 
 use jx_cli::laws::commands_are_apart;
 use jx_cli::{
-    Pair, Request, Show, WordsFault, read_boxes, read_make, read_same, read_show, read_words,
+    Boxes, Pair, Request, Show, WordsFault, read_boxes, read_make, read_same, read_show, read_words,
 };
 use std::alloc::Global;
 
@@ -22,8 +22,8 @@ pub enum Command {
     Transcode(Request),
     /// A codestream is generated from a seed, with so many columns and rows, and rewritten in memory.
     Make { seed: u64, width: u32, height: u32 },
-    /// The boxes of the JP2 file of a name are listed.
-    Boxes(String),
+    /// The boxes of a JP2 file are listed.
+    Boxes(Boxes),
     /// The codestreams of two files are compared.
     Same(Pair),
     /// It is said what the codestream of a file is.
@@ -57,7 +57,7 @@ pub fn read_command(alloc: Global, words: &[String]) -> Result<Command, WordsFau
         Err(WordsFault::NoMemory) => return Err(WordsFault::NoMemory),
     }
     match read_boxes(alloc, words) {
-        Ok(name) => return Ok(Command::Boxes(name)),
+        Ok(asked) => return Ok(Command::Boxes(asked)),
         Err(WordsFault::Words) => {}
         Err(WordsFault::NoMemory) => return Err(WordsFault::NoMemory),
     }

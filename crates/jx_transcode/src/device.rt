@@ -8,20 +8,17 @@ ghost use Rattle.jx_transcode.specs.Progress.{HasRead, SameButLeft};
 use jx_io::{Files, Refused};
 use std::alloc::Global;
 
-/// One byte more than an input may have, so that a longer one is told apart.
-pub const MOST: usize = 268_435_457;
-
 /// How many bytes a buffer grows by where nothing is known of the file's length.
 const PIECE: usize = 65_536;
 
-/// A buffer of zeros with room for a file that may have so many bytes, and one byte more by which its end is found; or an empty one
-/// where nothing is known, or memory for so many is refused.
-fn first_room(alloc: Global, hint: Option<u64>) -> Vec<u8>
-    ensures { vec_len result ≤ 268435457 }
+/// A buffer of zeros with room for a file that may have so many bytes, but for `limit` at most, and one byte more by which its end is found;
+/// or an empty one where nothing is known, or memory for so many is refused.
+fn first_room(alloc: Global, hint: Option<u64>, limit: u32) -> Vec<u8>
+    ensures { vec_len result ≤ limit + 1 }
 {
     let mut bytes = Vec::new(alloc);
     if let Some(length) = hint {
-        let room = length.min(MOST as u64 - 1) as usize + 1;
+        let room = length.min(u64::from(limit)) as usize + 1;
         if bytes.resize(room, 0).is_err() {
             return Vec::new(alloc);
         }
@@ -29,20 +26,20 @@ fn first_room(alloc: Global, hint: Option<u64>) -> Vec<u8>
     bytes
 }
 
-/// Makes a buffer longer by zeros where all of it is filled, up to `MOST` bytes.
-fn more_room(bytes: &mut Vec<u8>, filled: usize) -> Result<(), Refused>
-    requires most { filled < 268435457 }
+/// Makes a buffer longer by zeros where all of it is filled, up to `limit` bytes and one more.
+fn more_room(bytes: &mut Vec<u8>, filled: usize, limit: u32) -> Result<(), Refused>
+    requires most { filled ≤ limit }
     requires within { filled ≤ vec_len bytes.old }
-    requires few { vec_len bytes.old ≤ 268435457 }
+    requires few { vec_len bytes.old ≤ limit + 1 }
     ensures room { OnOk result (filled < vec_len bytes.new) }
-    ensures few { vec_len bytes.new ≤ 268435457 }
+    ensures few { vec_len bytes.new ≤ limit + 1 }
     ensures front { take filled bytes.new.items ≡ take filled bytes.old.items }
     ensures cause { OnErr result (result ≡ Err Refused.NoMemory) }
 {
     if filled < bytes.len() {
         return Ok(());
     }
-    let room = PIECE.min(MOST - filled);
+    let room = PIECE.min(limit as usize + 1 - filled);
     bytes.resize(filled + room, 0)?;
     Ok(())
 }
@@ -66,12 +63,17 @@ fn read_on<F: Files>(files: &mut F, bytes: &mut [u8], filled: usize) -> Result<u
 }
 
 /// The same with room for more where there is none.
-fn read_more<F: Files>(files: &mut F, bytes: &mut Vec<u8>, filled: usize) -> Result<usize, Refused>
+fn read_more<F: Files>(
+    files: &mut F,
+    bytes: &mut Vec<u8>,
+    filled: usize,
+    limit: u32,
+) -> Result<usize, Refused>
     requires reading { IsTrue (F.meaning files.old).reading }
-    requires most { filled < 268435457 }
+    requires most { filled ≤ limit }
     requires within { filled ≤ vec_len bytes.old }
-    requires few { vec_len bytes.old ≤ 268435457 }
-    ensures few { vec_len bytes.new ≤ 268435457 }
+    requires few { vec_len bytes.old ≤ limit + 1 }
+    ensures few { vec_len bytes.new ≤ limit + 1 }
     ensures within { IfOk result (λ n. filled + n ≤ vec_len bytes.new) }
     ensures read { IfOk result (λ n. (old : Option (List ℕ)) → HasRead old (F.meaning files.old).left (take filled bytes.old.items) → HasRead old (F.meaning files.new).left (take (filled + n) bytes.new.items)) }
     ensures end { IfOk result (λ n. n ≡ 0 → IfSome (F.meaning files.new).left (λ rest. rest ≡ [])) }
@@ -82,16 +84,16 @@ fn read_more<F: Files>(files: &mut F, bytes: &mut Vec<u8>, filled: usize) -> Res
     ensures cause { HasCause (F.read_faults files.old) (F.read_faults files.new) result }
     ensures other { F.write_faults files.new ≡ F.write_faults files.old }
 {
-    more_room(bytes, filled)?;
+    more_room(bytes, filled, limit)?;
     read_on(files, bytes, filled)
 }
 
-/// Fills a buffer with the bytes of the opened file, to its end or up to `MOST`: how many there are.
-fn fill<F: Files>(files: &mut F, bytes: &mut Vec<u8>) -> Result<usize, Refused>
+/// Fills a buffer with the bytes of the opened file, to its end or up to `limit` and one more: how many there are.
+fn fill<F: Files>(files: &mut F, bytes: &mut Vec<u8>, limit: u32) -> Result<usize, Refused>
     requires reading { IsTrue (F.meaning files.old).reading }
-    requires few { vec_len bytes.old ≤ 268435457 }
+    requires few { vec_len bytes.old ≤ limit + 1 }
     ensures within { IfOk result (λ n. n ≤ vec_len bytes.new) }
-    ensures bytes { IfOk result (λ n. IfSome (F.meaning files.old).left (λ left. take n bytes.new.items ≡ take MOST left)) }
+    ensures bytes { IfOk result (λ n. IfSome (F.meaning files.old).left (λ left. take n bytes.new.items ≡ take (limit + 1) left)) }
     ensures same { SameButLeft (F.meaning files.old) (F.meaning files.new) }
     ensures opens { Allows (F.can_open files.old) (F.can_open files.new) }
     ensures creates { Allows (F.can_create files.old) (F.can_create files.new) }
@@ -99,8 +101,8 @@ fn fill<F: Files>(files: &mut F, bytes: &mut Vec<u8>) -> Result<usize, Refused>
     ensures other { F.write_faults files.new ≡ F.write_faults files.old }
 {
     let mut filled = 0;
-    while filled < MOST {
-        let count = read_more(files, bytes, filled)?;
+    while filled <= limit as usize {
+        let count = read_more(files, bytes, filled, limit)?;
         filled += count;
         if count == 0 {
             return Ok(filled);
@@ -109,21 +111,21 @@ fn fill<F: Files>(files: &mut F, bytes: &mut Vec<u8>) -> Result<usize, Refused>
     Ok(filled)
 }
 
-/// Reads the opened file to its end, or its first `MOST` bytes.
+/// Reads the opened file to its end, or its first `limit` bytes and one more, by which a longer file is told apart.
 ///
 /// Where the device tells how long the file may be, the room is taken at once, and bytes are read to where they stay. What it tells is
 /// not relied on: a file may have fewer bytes, or more.
-pub fn read_all<F: Files>(alloc: Global, files: &mut F) -> Result<Vec<u8>, Refused>
+pub fn read_all<F: Files>(alloc: Global, files: &mut F, limit: u32) -> Result<Vec<u8>, Refused>
     requires { IsTrue (F.meaning files.old).reading }
-    ensures bytes { IfOk result (λ v. IfSome (F.meaning files.old).left (λ left. v.items ≡ take MOST left)) }
+    ensures bytes { IfOk result (λ v. IfSome (F.meaning files.old).left (λ left. v.items ≡ take (limit + 1) left)) }
     ensures same { SameButLeft (F.meaning files.old) (F.meaning files.new) }
     ensures opens { Allows (F.can_open files.old) (F.can_open files.new) }
     ensures creates { Allows (F.can_create files.old) (F.can_create files.new) }
     ensures cause { HasCause (F.read_faults files.old) (F.read_faults files.new) result }
     ensures other { F.write_faults files.new ≡ F.write_faults files.old }
 {
-    let mut bytes = first_room(alloc, files.length_hint());
-    let filled = fill(files, &mut bytes)?;
+    let mut bytes = first_room(alloc, files.length_hint(), limit);
+    let filled = fill(files, &mut bytes, limit)?;
     bytes.truncate(filled);
     bytes.shrink_to_fit();
     Ok(bytes)

@@ -1,20 +1,25 @@
 //! The input of a command, from its name to its bytes.
 
-ghost use Rattle.std.specs.Prelude.{◌≡◌, take, IfOk, IfSome, OnOk};
+ghost use Rattle.std.specs.Prelude.{◌≡◌, ◌+◌, take, IfOk, IfSome, OnOk};
 ghost use Rattle.jx_io.specs.Causes.{HasCause};
 ghost use Rattle.jx_io.specs.Device.{Allows, IsThere, joined};
 ghost use Rattle.jx_transcode.specs.Filed.{unread_as};
 ghost use Rattle.jx_transcode.specs.Outcome.{IsUntouched};
 
 use crate::Status;
-use crate::device::{MOST, read_all};
+use crate::device::read_all;
 use jx_io::{Files, Refused};
 use std::alloc::Global;
 
-/// Reads the file of a name to its end, or its first `MOST` bytes.
-pub fn read_input<F: Files>(alloc: Global, files: &mut F, name: &str) -> Result<Vec<u8>, Refused>
+/// Reads the file of a name to its end, or its first `limit` bytes and one more.
+pub fn read_input<F: Files>(
+    alloc: Global,
+    files: &mut F,
+    name: &str,
+    limit: u32,
+) -> Result<Vec<u8>, Refused>
     requires { F.can_open files.old name.now }
-    ensures bytes { IfOk result (λ v. IfSome (joined ((F.meaning files.old).holds name.now)) (λ b. v.items ≡ take MOST b)) }
+    ensures bytes { IfOk result (λ v. IfSome (joined ((F.meaning files.old).holds name.now)) (λ b. v.items ≡ take (limit + 1) b)) }
     ensures there { OnOk result (IsThere (F.meaning files.old) name.now) }
     ensures same { IsUntouched (F.meaning files.old) (F.meaning files.new) }
     ensures opens { Allows (F.can_open files.old) (F.can_open files.new) }
@@ -23,7 +28,7 @@ pub fn read_input<F: Files>(alloc: Global, files: &mut F, name: &str) -> Result<
     ensures other { F.write_faults files.new ≡ F.write_faults files.old }
 {
     files.open(name)?;
-    read_all(alloc, files)
+    read_all(alloc, files, limit)
 }
 
 /// The status of an input that couldn't be opened or read.

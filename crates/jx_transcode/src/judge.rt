@@ -1,18 +1,17 @@
 //! What an input is judged before anything is made of it: a codestream with its code-blocks, or the first rule that it violates or limit
 //! that it passes.
 
-ghost use Rattle.std.specs.Prelude.{◌≡◌, ◌≤◌, IfErr, IfOk, length};
+ghost use Rattle.std.specs.Prelude.{◌≡◌, ◌≤◌, ℕ, IfErr, IfOk, length};
+ghost use Rattle.jx_base.specs.Limits.{most_bytes};
 ghost use Rattle.jx_plan.specs.Plan.{MayBePlanned};
 ghost use Rattle.jx_transcode.specs.Filed.{told_by};
 ghost use Rattle.jx_transcode.specs.Jp2Run.{raised};
 ghost use Rattle.jx_transcode.specs.Judged.{IsInputCause};
-ghost use Rattle.jx_transcode.specs.Outcome.{most_bytes};
 ghost use Rattle.jx_transcode.specs.Rewritten.{Reads};
 ghost use Rattle.jx_transcode.specs.SameRun.{HasCodestream, IsAccepted, IsUnfit};
 
 use crate::Status;
 use crate::around::content_of;
-use crate::device::MOST;
 use jx_base::Block;
 use jx_codestream::{Stream, StreamFault, read_stream};
 use jx_jp2::{BoxFault, find, is_jp2};
@@ -50,7 +49,7 @@ fn codestream_of<'a>(input: &'a [u8]) -> Result<(u32, &'a [u8]), Status>
     requires within { length input.now ≤ most_bytes }
     ensures ok { IfOk result (λ found. HasCodestream input.entry.now found.0 found.1.now) }
     ensures within { IfOk result (λ found. length found.1.now ≤ most_bytes) }
-    ensures err { IfErr result (λ status. IsUnfit input.entry.now status) }
+    ensures err { IfErr result (λ status. (limit : ℕ) → length input.entry.now ≤ limit → IsUnfit limit input.entry.now status) }
 {
     if !is_jp2(input) {
         return Ok((0, input));
@@ -79,15 +78,15 @@ fn told_at(from: u32, fault: StreamFault) -> Status
     }
 }
 
-/// The codestream of a file of which these bytes were read, at most `MOST`; or limit 1, one of the rules 32 to 35 of a JP2 file, or the
-/// first rule that the codestream violates or limit that it passes, a rule with its place in the file.
-pub fn accept<'a>(alloc: Global, input: &'a [u8]) -> Result<Accepted<'a>, Status>
-    ensures ok { IfOk result (λ read. IsAccepted input.entry.now read.stream read.blocks.items) }
+/// The codestream of a file that may have `limit` bytes, of which these were read; or limit 1, one of the rules 32 to 35 of a JP2 file, or
+/// the first rule that the codestream violates or limit that it passes, a rule with its place in the file.
+pub fn accept<'a>(alloc: Global, input: &'a [u8], limit: u32) -> Result<Accepted<'a>, Status>
+    ensures ok { IfOk result (λ read. IsAccepted limit input.entry.now read.stream read.blocks.items) }
     ensures may { IfOk result (λ read. MayBePlanned read.stream read.blocks.items) }
-    ensures err { IfErr result (λ status. IsUnfit input.entry.now status) }
+    ensures err { IfErr result (λ status. IsUnfit limit input.entry.now status) }
 {
-    if input.len() >= MOST {
-        return Err(Status::too_long());
+    if input.len() > limit as usize {
+        return Err(Status::too_long(limit));
     }
     let (from, inner) = match codestream_of(input) {
         Ok(found) => found,

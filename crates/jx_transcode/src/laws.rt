@@ -1,5 +1,6 @@
 //! Laws over what becomes of an input. The functions do nothing but cite the laws of the crates below: their contracts carry the laws.
 ghost use Rattle.std.specs.Prelude.{◌≡◌, ◌⊎◌, ◌≤◌, ℕ, List, None, Option, length};
+ghost use Rattle.jx_base.specs.Limits.{most_bytes};
 ghost use Rattle.jx_base.specs.declared.pieces.Block.{Block};
 ghost use Rattle.jx_codestream.specs.declared.Stream.{Stream};
 ghost use Rattle.jx_layers.specs.declared.StreamFacts.{StreamFacts};
@@ -25,7 +26,7 @@ ghost use Rattle.jx_transcode.specs.SameRun.{HasCodestream, SameVerdict, fewer_d
 ghost use Rattle.jx_transcode.specs.TranscodeRun.{EndsBare};
 ghost use Rattle.jx_transcode.specs.MadeVerdict.{HasNoRule};
 ghost use Rattle.jx_transcode.specs.MakeRun.{aim_made, input_of};
-ghost use Rattle.jx_transcode.specs.Outcome.{Verdict, most_bytes};
+ghost use Rattle.jx_transcode.specs.Outcome.{Verdict};
 
 use jx_codestream::laws::{one_first, one_stream, violated_or_spelled};
 use jx_generate::laws::{made_blocks_are_plain, made_geometry, made_is_short, made_is_well_formed};
@@ -35,9 +36,9 @@ use jx_reduce::laws::{left_means, whole_stays};
 use jx_tier2_reader::laws::{never_both, one_gathering, one_of_both, one_violation};
 use jx_tier2_writer::laws::{one_output, written_is_ready};
 
-/// An input has at most one verdict.
+/// An input has at most one verdict, where it may have as many bytes as words can ask for.
 pub fn one_verdict()
-    ensures { (aim : Aim) (input : List ℕ) (s t : Status) → Verdict aim input s → Verdict aim input t → s ≡ t }
+    ensures { (aim : Aim) (input : List ℕ) (s t : Status) → aim.limit ≤ most_bytes → Verdict aim input s → Verdict aim input t → s ≡ t }
 {
     one_stream();
     one_first();
@@ -54,10 +55,10 @@ pub fn one_verdict()
 pub fn one_file()
     ensures file { (aim : Aim) (input out other : List ℕ) → length input ≤ most_bytes → IsRewritten aim input out → IsRewritten aim input other → out ≡ other }
     ensures runs { (name again : Text) (work other : Work) (aim : Aim) (input : List ℕ) (blocks bytes blocks2 bytes2 : ℕ) (tape tape2 : List TapeEntry) (old new old2 new2 : Meaning)
-        → (one : EndsBare name work aim input status.Done blocks bytes tape old new) → (two : EndsBare again other aim input status.Done blocks2 bytes2 tape2 old2 new2)
+        → aim.limit ≤ most_bytes → (one : EndsBare name work aim input status.Done blocks bytes tape old new) → (two : EndsBare again other aim input status.Done blocks2 bytes2 tape2 old2 new2)
         → one.leaves.out ≡ two.leaves.out }
     ensures boxed { (name again : Text) (work other : Work) (form : FormChoice) (aim : Aim) (input : List ℕ) (boxed boxed2 : Boxed) (blocks bytes blocks2 bytes2 : ℕ) (tape tape2 : List TapeEntry) (old new old2 new2 : Meaning)
-        → (one : EndsAround name work form aim input boxed status.Done blocks bytes tape old new) → (two : EndsAround again other form aim input boxed2 status.Done blocks2 bytes2 tape2 old2 new2)
+        → aim.limit ≤ most_bytes → (one : EndsAround name work form aim input boxed status.Done blocks bytes tape old new) → (two : EndsAround again other form aim input boxed2 status.Done blocks2 bytes2 tape2 old2 new2)
         → file_in form input boxed one.out ≡ file_in form input boxed2 two.out }
 {
     one_stream();
@@ -71,9 +72,9 @@ pub fn one_file()
     one_codestream();
 }
 
-/// A file has at most one verdict, JP2 or not.
+/// A file has at most one verdict, JP2 or not, where it may have as many bytes as words can ask for.
 pub fn one_file_verdict()
-    ensures { (aim : Aim) (input : List ℕ) (s t : Status) → FileVerdict aim input s → FileVerdict aim input t → s ≡ t }
+    ensures { (aim : Aim) (input : List ℕ) (s t : Status) → aim.limit ≤ most_bytes → FileVerdict aim input s → FileVerdict aim input t → s ≡ t }
 {
     one_verdict();
     one_codestream();
@@ -102,17 +103,17 @@ pub fn some_file_verdict()
 
 /// An input of `boxes` has a verdict, and one alone.
 pub fn boxes_have_one_verdict()
-    ensures one { (input : List ℕ) (s t : Status) → BoxesVerdict input s → BoxesVerdict input t → s ≡ t }
-    ensures some { (input : List ℕ) → (s : Status) × BoxesVerdict input s }
+    ensures one { (limit : ℕ) (input : List ℕ) (s t : Status) → BoxesVerdict limit input s → BoxesVerdict limit input t → s ≡ t }
+    ensures some { (limit : ℕ) (input : List ℕ) → (s : Status) × BoxesVerdict limit input s }
 {
     one_tree();
     some_tree();
 }
 
-/// Two files have a verdict under `same`, and one alone.
+/// Two files have a verdict under `same`, and one alone, where they may have as many bytes as words can ask for.
 pub fn same_has_one_verdict()
-    ensures one { (first second : List ℕ) (s t : Status) → SameVerdict first second s → SameVerdict first second t → s ≡ t }
-    ensures some { (first second : List ℕ) → AreBytes first → AreBytes second → (s : Status) × SameVerdict first second s }
+    ensures one { (limit : ℕ) (first second : List ℕ) (s t : Status) → limit ≤ most_bytes → SameVerdict limit first second s → SameVerdict limit first second t → s ≡ t }
+    ensures some { (limit : ℕ) (first second : List ℕ) → limit ≤ most_bytes → AreBytes first → AreBytes second → (s : Status) × SameVerdict limit first second s }
 {
     one_stream();
     one_first();
@@ -139,8 +140,8 @@ pub fn all_is_left()
 /// What `transcode` wrote of an input, and left nothing out of, is the same as the input under `same`, where it is within the limits, as a
 /// codestream or as a JP2 file: `inner` is the input's codestream, `again` that of the file that was written.
 pub fn kept_is_same()
-    ensures { (aim : Aim) (input out inner again : List ℕ) (from to : ℕ) (kept : IsKept aim inner again) → aim.reduce ≡ 0 → length input ≤ most_bytes → length out ≤ most_bytes
-        → HasCodestream input from inner → HasCodestream out to again → totals_fault kept.after ≡ None → SameVerdict input out status.Done }
+    ensures { (aim : Aim) (limit : ℕ) (input out inner again : List ℕ) (from to : ℕ) (kept : IsKept aim inner again) → aim.reduce ≡ 0 → limit ≤ most_bytes → length input ≤ limit → length out ≤ limit
+        → HasCodestream input from inner → HasCodestream out to again → totals_fault kept.after ≡ None → SameVerdict limit input out status.Done }
 {
     gathered_may_be_planned();
     whole_stays();
@@ -149,8 +150,8 @@ pub fn kept_is_same()
 /// What `transcode` wrote of an input with fewer resolutions differs from the input under `same` in the subsampling factors of the first
 /// component, which are 2^d times as large, where it is within the limits.
 pub fn fewer_differ()
-    ensures { (aim : Aim) (input out inner again : List ℕ) (from to : ℕ) (kept : IsKept aim inner again) → 1 ≤ aim.reduce → length input ≤ most_bytes → length out ≤ most_bytes
-        → HasCodestream input from inner → HasCodestream out to again → totals_fault kept.after ≡ None → SameVerdict input out (status.Unlike (unlike.Differs (fewer_difference aim.reduce (size_in kept.reads.whole.siz 0)))) }
+    ensures { (aim : Aim) (limit : ℕ) (input out inner again : List ℕ) (from to : ℕ) (kept : IsKept aim inner again) → 1 ≤ aim.reduce → limit ≤ most_bytes → length input ≤ limit → length out ≤ limit
+        → HasCodestream input from inner → HasCodestream out to again → totals_fault kept.after ≡ None → SameVerdict limit input out (status.Unlike (unlike.Differs (fewer_difference aim.reduce (size_in kept.reads.whole.siz 0)))) }
 {
     gathered_may_be_planned();
     whole_stays();
@@ -158,9 +159,9 @@ pub fn fewer_differ()
 
 /// Two files that `transcode` wrote of one codestream without as many resolutions are the same under `same`, where they are within the limits.
 pub fn as_many_are_same()
-    ensures { (aim more : Aim) (input first second one two : List ℕ) (at to : ℕ) (kept : IsKept aim input one) (again : IsKept more input two) → aim.reduce ≡ more.reduce → length input ≤ most_bytes
-        → length first ≤ most_bytes → length second ≤ most_bytes → HasCodestream first at one → HasCodestream second to two → totals_fault kept.after ≡ None → totals_fault again.after ≡ None
-        → SameVerdict first second status.Done }
+    ensures { (aim more : Aim) (limit : ℕ) (input first second one two : List ℕ) (at to : ℕ) (kept : IsKept aim input one) (again : IsKept more input two) → aim.reduce ≡ more.reduce → length input ≤ most_bytes
+        → length first ≤ limit → length second ≤ limit → HasCodestream first at one → HasCodestream second to two → totals_fault kept.after ≡ None → totals_fault again.after ≡ None
+        → SameVerdict limit first second status.Done }
 {
     one_stream();
     one_first();
@@ -172,10 +173,10 @@ pub fn as_many_are_same()
     one_output();
 }
 
-/// A generated codestream violates no rule, and passes no limit but that on packets of the output.
+/// A generated codestream violates no rule, and passes no limit but that on packets of the output, where it may have as many bytes as it has.
 pub fn made_is_accepted()
     ensures rules { (aim : Aim) (m : Make) (number place : ℕ) → MayBeMade m → Verdict aim (input_of m) (status.Rule number place) → ⊥ }
-    ensures limits { (aim : Aim) (m : Make) (number found : ℕ) → MayBeMade m → Verdict aim (input_of m) (status.Limit number found) → number ≡ 7 }
+    ensures limits { (aim : Aim) (m : Make) (number found : ℕ) → MayBeMade m → length (input_of m) ≤ aim.limit → Verdict aim (input_of m) (status.Limit number found) → number ≡ 7 }
 {
     made_is_short();
     made_is_well_formed();

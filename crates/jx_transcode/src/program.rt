@@ -26,7 +26,7 @@ use std::thread::Threads;
 /// Does what the words ask for, and says one line; `boxes` one for each box, `show` one for each fact.
 ///
 /// `words` begin with the program's name, and name the command. Those of `transcode` name IN, OUT and its options: IN is read
-/// to its end, or to one byte past the most that an input may have, and OUT is created once the whole
+/// to its end, or to one byte past the most that the words say it may have, and OUT is created once the whole
 /// input is read and its plan made. The main header, each tile-part and EOC are one piece each to write;
 /// tiles are made round by round, and what is made is written before the next round. A fault of `files`
 /// or `say` ends the run where it comes.
@@ -54,7 +54,7 @@ pub fn run<R: Threads + Wait + Sync, F: Files, S: Sink, G: Gate + Sync>(
     mut planners: Vec<Box<dyn LayerPlanner>>,
 ) -> Report
     requires opens { is_good (map string_bytes words.now) ≡ true → F.can_open files.old (request_of (map string_bytes words.now)).from }
-    requires lists { is_boxes (map string_bytes words.now) ≡ true → F.can_open files.old (boxes_of (map string_bytes words.now)) }
+    requires lists { is_boxes (map string_bytes words.now) ≡ true → F.can_open files.old (boxes_of (map string_bytes words.now)).name }
     requires compares { is_same (map string_bytes words.now) ≡ true
         → F.can_open files.old (same_of (map string_bytes words.now)).first × F.can_open files.old (same_of (map string_bytes words.now)).second }
     requires shows { is_show (map string_bytes words.now) ≡ true → F.can_open files.old (show_of (map string_bytes words.now)).name }
@@ -66,7 +66,7 @@ pub fn run<R: Threads + Wait + Sync, F: Files, S: Sink, G: Gate + Sync>(
     // a file that is told as not being there
     ensures absent { is_good (map string_bytes words.now) ≡ true → (F.meaning files.old).holds (request_of (map string_bytes words.now)).from ≡ Some None
         → EndsAsReadFault result.status (S.faults say.old) (S.faults say.new) }
-    ensures unlisted { is_boxes (map string_bytes words.now) ≡ true → (F.meaning files.old).holds (boxes_of (map string_bytes words.now)) ≡ Some None
+    ensures unlisted { is_boxes (map string_bytes words.now) ≡ true → (F.meaning files.old).holds (boxes_of (map string_bytes words.now)).name ≡ Some None
         → EndsAsReadFault result.status (S.faults say.old) (S.faults say.new) }
     ensures unfound { is_same (map string_bytes words.now) ≡ true → (F.meaning files.old).holds (same_of (map string_bytes words.now)).first ≡ Some None
         → EndsAsReadFault result.status (S.faults say.old) (S.faults say.new) }
@@ -112,7 +112,7 @@ pub fn run<R: Threads + Wait + Sync, F: Files, S: Sink, G: Gate + Sync>(
             };
             make::run(rt, alloc, asked, say, gate, &mut planners)
         }
-        Ok(Command::Boxes(name)) => boxes::run(alloc, name.as_str(), files, say),
+        Ok(Command::Boxes(asked)) => boxes::run(alloc, &asked, files, say),
         Ok(Command::Same(names)) => same::run(rt, alloc, &names, files, say),
         Ok(Command::Show(asked)) => show::run(alloc, &asked, files, say),
         Err(WordsFault::Words) => refuse(alloc, say, Status::Words),

@@ -9,15 +9,13 @@ ghost use Rattle.jx_plan.specs.Planned.{chosen};
 ghost use Rattle.jx_options.specs.Wanted.{MayBeWanted};
 ghost use Rattle.jx_options.specs.Work.{MayBeWork};
 ghost use Rattle.jx_workers.specs.Told.{anew_in};
-ghost use Rattle.jx_transcode.specs.Filed.{IsAnswered, IsEndOf, all_told, blocks_told, status_of, told_by, told_of_all, told_of_plan};
+ghost use Rattle.jx_transcode.specs.Filed.{IsAnswered, IsEndOf, IsTooLong, all_told, blocks_told, status_of, told_by, told_of_all, told_of_plan};
 ghost use Rattle.jx_transcode.specs.Jp2Run.{IsPlaced};
 ghost use Rattle.jx_transcode.specs.Misfits.{HasTile, IsMisfitBy, IsMisfitOf};
-ghost use Rattle.jx_transcode.specs.Outcome.{most_bytes};
 ghost use Rattle.jx_transcode.specs.Rewritten.{ReadsLeft};
-ghost use Rattle.jx_base.specs.Limits.{most_blocks};
+ghost use Rattle.jx_base.specs.Limits.{most_blocks, most_bytes};
 
 use crate::Status;
-use crate::device::MOST;
 use crate::file::write_file;
 use jx_base::Block;
 use jx_codeblock::Job;
@@ -224,13 +222,13 @@ fn rewrite_left<R: Threads + Wait + Sync, G: Gate + Sync, F: Files>(
     requires may { MayBePlanned stream.now blocks.now }
     requires wanted { MayBeWanted options.now }
     requires work { MayBeWork crew.now.work }
-    ensures answer { (d : ℕ) (input : List ℕ) → length input ≤ most_bytes → ReadsLeft d input stream.now blocks.now → IsAnswered to.now crew.now.work (record { wanted = options.now; reduce = d; rule = λ facts. chosen (λ b. serves_text b options.now.layers) (λ b. rule_of b options.now.layers facts) planners.old }) input result.status result.blocks result.bytes result.tape.items (F.meaning files.old) (F.meaning files.new) }
+    ensures answer { (d limit : ℕ) (input : List ℕ) → length input ≤ limit → ReadsLeft d input stream.now blocks.now → IsAnswered to.now crew.now.work (record { wanted = options.now; reduce = d; limit = limit; rule = λ facts. chosen (λ b. serves_text b options.now.layers) (λ b. rule_of b options.now.layers facts) planners.old }) input result.status result.blocks result.bytes result.tape.items (F.meaning files.old) (F.meaning files.new) }
     ensures cause { result.status ≡ Status.WriteFault → Rose (F.write_faults files.old) (F.write_faults files.new) }
     ensures rose { F.write_faults files.old < F.write_faults files.new → result.status ≡ Status.WriteFault }
     ensures read { (result.status ≡ Status.ReadFault → ⊥) × (result.status ≡ Status.Words → ⊥) }
     ensures placed { IsPlaced result.status }
     ensures other { F.read_faults files.new ≡ F.read_faults files.old }
-    ensures misfit { (d : ℕ) (input : List ℕ) → length input ≤ most_bytes → ReadsLeft d input stream.now blocks.now → IfSome result.misfit (λ misfit. IsMisfitOf options.now.precincts d input result.status misfit) }
+    ensures misfit { (d limit : ℕ) (input : List ℕ) → length input ≤ limit → ReadsLeft d input stream.now blocks.now → IfSome result.misfit (λ misfit. IsMisfitOf options.now.precincts d limit input result.status misfit) }
 {
     read_headers_stand();
     plans_write_these_blocks();
@@ -271,13 +269,13 @@ fn rewrite<R: Threads + Wait + Sync, G: Gate + Sync, F: Files>(
     requires wanted { MayBeWanted options.now }
     requires few { reduce ≤ 32 }
     requires work { MayBeWork crew.now.work }
-    ensures answer { IsAnswered to.now crew.now.work (record { wanted = options.now; reduce = reduce; rule = λ facts. chosen (λ b. serves_text b options.now.layers) (λ b. rule_of b options.now.layers facts) planners.old }) input.now result.status result.blocks result.bytes result.tape.items (F.meaning files.old) (F.meaning files.new) }
+    ensures answer { (limit : ℕ) → length input.now ≤ limit → IsAnswered to.now crew.now.work (record { wanted = options.now; reduce = reduce; limit = limit; rule = λ facts. chosen (λ b. serves_text b options.now.layers) (λ b. rule_of b options.now.layers facts) planners.old }) input.now result.status result.blocks result.bytes result.tape.items (F.meaning files.old) (F.meaning files.new) }
     ensures cause { result.status ≡ Status.WriteFault → Rose (F.write_faults files.old) (F.write_faults files.new) }
     ensures rose { F.write_faults files.old < F.write_faults files.new → result.status ≡ Status.WriteFault }
     ensures read { (result.status ≡ Status.ReadFault → ⊥) × (result.status ≡ Status.Words → ⊥) }
     ensures placed { IsPlaced result.status }
     ensures other { F.read_faults files.new ≡ F.read_faults files.old }
-    ensures misfit { IfSome result.misfit (λ misfit. IsMisfitOf options.now.precincts reduce input.now result.status misfit) }
+    ensures misfit { (limit : ℕ) → length input.now ≤ limit → IfSome result.misfit (λ misfit. IsMisfitOf options.now.precincts reduce limit input.now result.status misfit) }
 {
     gathered_may_be_planned();
     whole_stays();
@@ -299,7 +297,7 @@ fn rewrite<R: Threads + Wait + Sync, G: Gate + Sync, F: Files>(
     }
 }
 
-/// What becomes of the bytes that were read, at most `MOST`.
+/// What becomes of a codestream that may have `limit` bytes, of which these were read.
 pub fn answer<R: Threads + Wait + Sync, G: Gate + Sync, F: Files>(
     crew: &Crew<'_, R, G>,
     alloc: Global,
@@ -308,24 +306,24 @@ pub fn answer<R: Threads + Wait + Sync, G: Gate + Sync, F: Files>(
     to: &str,
     options: &Options,
     reduce: u8,
+    limit: u32,
     planners: &mut [Box<dyn LayerPlanner>],
 ) -> Ending
     requires creates { F.can_create files.old to.now }
     requires wanted { MayBeWanted options.now }
     requires few { reduce ≤ 32 }
     requires work { MayBeWork crew.now.work }
-    ensures answer { IsAnswered to.now crew.now.work (record { wanted = options.now; reduce = reduce; rule = λ facts. chosen (λ b. serves_text b options.now.layers) (λ b. rule_of b options.now.layers facts) planners.old }) input.now result.status result.blocks result.bytes result.tape.items (F.meaning files.old) (F.meaning files.new) }
-    // no code-block of an input that is too long
-    ensures long { most_bytes < length input.now → result.tape.items ≡ [] }
+    ensures answer { IsAnswered to.now crew.now.work (record { wanted = options.now; reduce = reduce; limit = limit; rule = λ facts. chosen (λ b. serves_text b options.now.layers) (λ b. rule_of b options.now.layers facts) planners.old }) input.now result.status result.blocks result.bytes result.tape.items (F.meaning files.old) (F.meaning files.new) }
+    ensures long { limit < length input.now → IsTooLong limit result.status result.blocks result.bytes result.tape.items (F.meaning files.old) (F.meaning files.new) }
     ensures cause { result.status ≡ Status.WriteFault → Rose (F.write_faults files.old) (F.write_faults files.new) }
     ensures rose { F.write_faults files.old < F.write_faults files.new → result.status ≡ Status.WriteFault }
     ensures read { (result.status ≡ Status.ReadFault → ⊥) × (result.status ≡ Status.Words → ⊥) }
     ensures placed { IsPlaced result.status }
     ensures other { F.read_faults files.new ≡ F.read_faults files.old }
-    ensures misfit { IfSome result.misfit (λ misfit. IsMisfitOf options.now.precincts reduce input.now result.status misfit) }
+    ensures misfit { IfSome result.misfit (λ misfit. IsMisfitOf options.now.precincts reduce limit input.now result.status misfit) }
 {
-    if input.len() >= MOST {
-        return Ending::refused(alloc, Status::too_long());
+    if input.len() > limit as usize {
+        return Ending::refused(alloc, Status::too_long(limit));
     }
     match read_stream(alloc, input) {
         Ok(stream) => rewrite(

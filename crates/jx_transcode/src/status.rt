@@ -57,16 +57,16 @@ pub enum Status {
 }
 
 impl Status {
-    ghost use Rattle.std.specs.Prelude.{◌≡◌};
+    ghost use Rattle.std.specs.Prelude.{◌≡◌, ◌+◌};
     ghost use Rattle.jx_transcode.specs.Outcome.{number_of};
 
-    /// Limit 1 is passed: the input has over 2^32 - 1 bytes, of which one more is read.
-    pub(crate) fn too_long() -> Status
-        ensures { result ≡ Status.Limit 1 268435457 }
+    /// Limit 1 is passed: the input has over `limit` bytes, of which one more is read.
+    pub(crate) fn too_long(limit: u32) -> Status
+        ensures { result ≡ Status.Limit 1 (limit + 1) }
     {
         Status::Limit {
             number: 1,
-            found: 268_435_457,
+            found: u128::from(limit) + 1,
         }
     }
 

@@ -5,21 +5,21 @@ ghost use Rattle.jx_io.specs.Causes.{Rose};
 ghost use Rattle.jx_transcode.specs.BoxesRun.{EndsListed, IsListed, IsUnlisted};
 ghost use Rattle.jx_transcode.specs.Outcome.{EndsAsReadFault};
 
-use crate::device::MOST;
 use crate::input::{read_input, unread_as};
 use crate::say::{refuse, say_lines};
 use crate::{Report, Status};
+use jx_cli::Boxes;
 use jx_io::{Files, Sink};
 use jx_jp2::{BoxFault, is_jp2, list};
 use std::alloc::Global;
 
-/// The lines of all boxes of the bytes that were read, at most `MOST`; or why there are none.
-fn lines_of(alloc: Global, input: &[u8]) -> Result<String, Status>
-    ensures listed { IfOk result (λ text. IsListed input.now (string_bytes text)) }
-    ensures refused { IfErr result (λ status. IsUnlisted input.now status) }
+/// The lines of all boxes of a file that may have `limit` bytes, of which these were read; or why there are none.
+fn lines_of(alloc: Global, input: &[u8], limit: u32) -> Result<String, Status>
+    ensures listed { IfOk result (λ text. IsListed limit input.now (string_bytes text)) }
+    ensures refused { IfErr result (λ status. IsUnlisted limit input.now status) }
 {
-    if input.len() >= MOST {
-        return Err(Status::too_long());
+    if input.len() > limit as usize {
+        return Err(Status::too_long(limit));
     }
     if !is_jp2(input) {
         return Err(Status::Rule {
@@ -38,23 +38,24 @@ fn lines_of(alloc: Global, input: &[u8]) -> Result<String, Status>
 }
 
 /// Reads the file of a name, and says the lines of its boxes, or why it can't.
-pub fn run<F: Files, S: Sink>(alloc: Global, name: &str, files: &mut F, say: &mut S) -> Report
-    requires { F.can_open files.old name.now }
-    ensures ends { EndsListed name.now result.status result.blocks result.tape.items (F.meaning files.old) (F.meaning files.new) (S.said say.old) (S.said say.new) }
+pub fn run<F: Files, S: Sink>(alloc: Global, asked: &Boxes, files: &mut F, say: &mut S) -> Report
+    requires { F.can_open files.old asked.now.name }
+    ensures ends { EndsListed asked.now result.status result.blocks result.tape.items (F.meaning files.old) (F.meaning files.new) (S.said say.old) (S.said say.new) }
     ensures read { result.status ≡ Status.ReadFault → Rose (F.read_faults files.old) (F.read_faults files.new) }
     ensures write { result.status ≡ Status.WriteFault → Rose (S.faults say.old) (S.faults say.new) }
     ensures unsaid { S.faults say.old < S.faults say.new → result.status ≡ Status.WriteFault }
-    ensures absent { (F.meaning files.old).holds name.now ≡ Some None → EndsAsReadFault result.status (S.faults say.old) (S.faults say.new) }
+    ensures absent { (F.meaning files.old).holds asked.now.name ≡ Some None → EndsAsReadFault result.status (S.faults say.old) (S.faults say.new) }
     ensures read_rose { F.read_faults files.old < F.read_faults files.new → EndsAsReadFault result.status (S.faults say.old) (S.faults say.new) }
     ensures other { F.write_faults files.new ≡ F.write_faults files.old }
     ensures positions { result.positions ≡ false }
     ensures misfit { result.misfit ≡ None }
 {
-    let input = match read_input(alloc, files, name) {
+    let limit = asked.limit();
+    let input = match read_input(alloc, files, asked.name(), limit) {
         Ok(input) => input,
         Err(refused) => return refuse(alloc, say, unread_as(refused)),
     };
-    match lines_of(alloc, &input) {
+    match lines_of(alloc, &input, limit) {
         Ok(lines) => say_lines(alloc, say, lines.as_str()),
         Err(status) => refuse(alloc, say, status),
     }

@@ -30,6 +30,9 @@ const WORK: Work = Work {
     most: 268_435_456,
 };
 
+/// The most bytes that the generated codestream may have.
+const LIMIT: u32 = 268_435_456;
+
 /// How a transcoded picture came out, before anything is said.
 #[derive(Debug, Drop)]
 struct Made {
@@ -98,7 +101,9 @@ fn transcoded<R: Threads + Wait + Sync, G: Gate + Sync>(
     ensures { IsReadyToSay asked (λ text facts. chosen (λ b. serves_text b text) (λ b. rule_of b text facts) planners.old) result.status result.blocks result.before result.after result.total result.tape.items }
 {
     let mut files = SureFiles::new(alloc);
-    let ending = answer(crew, alloc, &mut files, input, "", options, 0, planners);
+    let ending = answer(
+        crew, alloc, &mut files, input, "", options, 0, LIMIT, planners,
+    );
     Made {
         status: ending.status,
         blocks: ending.blocks,

@@ -59,21 +59,22 @@ fn compare_second<R: Threads + Sync, F: Files>(
     blocks: &[Block<'_>],
     files: &mut F,
     name: &str,
+    limit: u32,
 ) -> Status
     requires threads { (1 ≤ threads) × (threads ≤ 64) }
     requires may { MayBePlanned stream.now blocks.now }
     requires opens { F.can_open files.old name.now }
-    ensures told { IsSecondTold name.now stream.now blocks.now result (F.meaning files.old) (F.meaning files.new) }
+    ensures told { IsSecondTold limit name.now stream.now blocks.now result (F.meaning files.old) (F.meaning files.new) }
     ensures read { result ≡ Status.ReadFault → Rose (F.read_faults files.old) (F.read_faults files.new) }
     ensures absent { (F.meaning files.old).holds name.now ≡ Some None → (result ≡ Status.ReadFault) ⊎ (result ≡ Status.NoMemory) }
     ensures read_rose { F.read_faults files.old < F.read_faults files.new → result ≡ Status.ReadFault }
     ensures other { F.write_faults files.new ≡ F.write_faults files.old }
 {
-    let held = match read_input(alloc, files, name) {
+    let held = match read_input(alloc, files, name, limit) {
         Ok(held) => held,
         Err(refused) => return unread_as(refused),
     };
-    match accept(alloc, &held) {
+    match accept(alloc, &held, limit) {
         Ok(second) => {
             let others: &[Block<'_>] = &second.blocks;
             answer_status(compare(rt, alloc, threads, stream, blocks, &second.stream, others))
@@ -101,7 +102,8 @@ fn compare_files<R: Threads + Sync, F: Files>(
     ensures read_rose { F.read_faults files.old < F.read_faults files.new → result.status ≡ Status.ReadFault }
     ensures other { F.write_faults files.new ≡ F.write_faults files.old }
 {
-    let held = match read_input(alloc, files, names.first()) {
+    let limit = names.limit();
+    let held = match read_input(alloc, files, names.first(), limit) {
         Ok(held) => held,
         Err(refused) => {
             return Told {
@@ -110,7 +112,7 @@ fn compare_files<R: Threads + Sync, F: Files>(
             };
         }
     };
-    match accept(alloc, &held) {
+    match accept(alloc, &held, limit) {
         Ok(accepted) => {
             let blocks: &[Block<'_>] = &accepted.blocks;
             let status = compare_second(
@@ -121,6 +123,7 @@ fn compare_files<R: Threads + Sync, F: Files>(
                 blocks,
                 files,
                 names.second(),
+                limit,
             );
             Told {
                 status,

@@ -1,11 +1,12 @@
 //! `show`: what a file's codestream is, in lines or as a JSON object. Nothing is written.
 
 ghost use Rattle.std.specs.Prelude.{◌≡◌, ◌<◌, ◌≤◌, ℕ, List, Option, IfErr, IfOk, None, Some, false, length, string_bytes};
+ghost use Rattle.jx_base.specs.Limits.{most_bytes};
 ghost use Rattle.jx_io.specs.Causes.{Rose};
 ghost use Rattle.jx_plan.specs.Plan.{MayBePlanned};
 ghost use Rattle.jx_show.specs.Facts.{facts_of};
 ghost use Rattle.jx_show.specs.File.{file_text};
-ghost use Rattle.jx_transcode.specs.Outcome.{EndsAsReadFault, most_bytes};
+ghost use Rattle.jx_transcode.specs.Outcome.{EndsAsReadFault};
 ghost use Rattle.jx_transcode.specs.SameRun.{IsUnfit};
 ghost use Rattle.jx_transcode.specs.ShowRun.{EndsShown, HasBoxes, IsShown};
 
@@ -42,12 +43,12 @@ fn text_of(
     }
 }
 
-/// What is told of the bytes that were read; or why nothing is.
-fn lines_of(alloc: Global, input: &[u8], json: bool) -> Result<String, Status>
-    ensures shown { IfOk result (λ text. IsShown json input.now (string_bytes text)) }
-    ensures refused { IfErr result (λ status. IsUnfit input.now status) }
+/// What is told of a file that may have `limit` bytes, of which these were read; or why nothing is.
+fn lines_of(alloc: Global, input: &[u8], json: bool, limit: u32) -> Result<String, Status>
+    ensures shown { IfOk result (λ text. IsShown limit json input.now (string_bytes text)) }
+    ensures refused { IfErr result (λ status. IsUnfit limit input.now status) }
 {
-    let read = match accept(alloc, input) {
+    let read = match accept(alloc, input, limit) {
         Ok(read) => read,
         Err(status) => return Err(status),
     };
@@ -70,11 +71,12 @@ pub fn run<F: Files, S: Sink>(alloc: Global, asked: &Show, files: &mut F, say: &
     ensures positions { result.positions ≡ false }
     ensures misfit { result.misfit ≡ None }
 {
-    let input = match read_input(alloc, files, asked.name()) {
+    let limit = asked.limit();
+    let input = match read_input(alloc, files, asked.name(), limit) {
         Ok(input) => input,
         Err(refused) => return refuse(alloc, say, unread_as(refused)),
     };
-    match lines_of(alloc, &input, asked.json()) {
+    match lines_of(alloc, &input, asked.json(), limit) {
         Ok(lines) => say_lines(alloc, say, lines.as_str()),
         Err(status) => refuse(alloc, say, status),
     }

@@ -1,15 +1,16 @@
 //! `transcode`: a codestream, or that in a JP2 file, is rewritten to another file.
 
 ghost use Rattle.std.specs.Prelude.{◌≡◌, ◌<◌, ◌≤◌, ◌⊎◌, ◌↔◌, [], None, Some, length, IfSome, IsTrue};
+ghost use Rattle.jx_base.specs.Limits.{most_bytes};
 ghost use Rattle.jx_jp2.specs.Codestream.{IsJp2};
 ghost use Rattle.jx_plan.specs.Planned.{chosen};
 ghost use Rattle.jx_options.specs.Wanted.{MayBeWanted};
 ghost use Rattle.jx_options.specs.Work.{MayBeWork};
 ghost use Rattle.jx_io.specs.Causes.{Rose};
-ghost use Rattle.jx_transcode.specs.Filed.{IsAnswered, unread_as};
+ghost use Rattle.jx_transcode.specs.Filed.{IsAnswered, IsTooLong, unread_as};
 ghost use Rattle.jx_transcode.specs.Jp2Run.{EndsJp2, KeepsPositions};
 ghost use Rattle.jx_transcode.specs.Misfits.{IsChoice, IsMisfitOfFile, TellsMisfit};
-ghost use Rattle.jx_transcode.specs.Outcome.{EndsAs, EndsAsReadFault, line_of, most_bytes};
+ghost use Rattle.jx_transcode.specs.Outcome.{EndsAs, EndsAsReadFault, line_of};
 ghost use Rattle.jx_transcode.specs.TranscodeRun.{Ends, TellsPositions};
 
 use crate::around::answer_jp2;
@@ -39,7 +40,7 @@ fn unread(alloc: Global, refused: Refused) -> Ending
     Ending::refused(alloc, unread_as(refused))
 }
 
-/// What becomes of the bytes that were read, at most `MOST`: those of a codestream, or of a JP2 file.
+/// What becomes of a file that may have `limit` bytes, of which these were read: a codestream, or a JP2 file.
 fn answer_file<R: Threads + Wait + Sync, G: Gate + Sync, F: Files>(
     crew: &Crew<'_, R, G>,
     alloc: Global,
@@ -49,28 +50,31 @@ fn answer_file<R: Threads + Wait + Sync, G: Gate + Sync, F: Files>(
     form: FormChoice,
     options: &Options,
     reduce: u8,
+    limit: u32,
     planners: &mut [Box<dyn LayerPlanner>],
 ) -> Ending
     requires creates { F.can_create files.old to.now }
     requires wanted { MayBeWanted options.now }
     requires few { reduce ≤ 32 }
     requires work { MayBeWork crew.now.work }
-    ensures bare { (IsJp2 input.now → ⊥) → IsAnswered to.now crew.now.work (record { wanted = options.now; reduce = reduce; rule = λ facts. chosen (λ b. serves_text b options.now.layers) (λ b. rule_of b options.now.layers facts) planners.old }) input.now result.status result.blocks result.bytes result.tape.items (F.meaning files.old) (F.meaning files.new) }
-    ensures jp2 { IsJp2 input.now → EndsJp2 to.now crew.now.work form (record { wanted = options.now; reduce = reduce; rule = λ facts. chosen (λ b. serves_text b options.now.layers) (λ b. rule_of b options.now.layers facts) planners.old }) input.now result.status result.blocks result.bytes result.tape.items (F.meaning files.old) (F.meaning files.new) }
-    ensures long { most_bytes < length input.now → result.tape.items ≡ [] }
+    ensures bare { (IsJp2 input.now → ⊥) → IsAnswered to.now crew.now.work (record { wanted = options.now; reduce = reduce; limit = limit; rule = λ facts. chosen (λ b. serves_text b options.now.layers) (λ b. rule_of b options.now.layers facts) planners.old }) input.now result.status result.blocks result.bytes result.tape.items (F.meaning files.old) (F.meaning files.new) }
+    ensures jp2 { IsJp2 input.now → EndsJp2 to.now crew.now.work form (record { wanted = options.now; reduce = reduce; limit = limit; rule = λ facts. chosen (λ b. serves_text b options.now.layers) (λ b. rule_of b options.now.layers facts) planners.old }) input.now result.status result.blocks result.bytes result.tape.items (F.meaning files.old) (F.meaning files.new) }
+    ensures long { limit < length input.now → IsTooLong limit result.status result.blocks result.bytes result.tape.items (F.meaning files.old) (F.meaning files.new) }
     ensures cause { result.status ≡ Status.WriteFault → Rose (F.write_faults files.old) (F.write_faults files.new) }
     ensures rose { F.write_faults files.old < F.write_faults files.new → result.status ≡ Status.WriteFault }
     ensures read { (result.status ≡ Status.ReadFault → ⊥) × (result.status ≡ Status.Words → ⊥) }
     ensures other { F.read_faults files.new ≡ F.read_faults files.old }
-    ensures short { result.status ≡ Status.Done → length input.now ≤ most_bytes }
-    ensures misfit { IfSome result.misfit (λ misfit. IsMisfitOfFile options.now.precincts reduce input.now result.status misfit) }
+    ensures short { result.status ≡ Status.Done → length input.now ≤ limit }
+    ensures misfit { IfSome result.misfit (λ misfit. IsMisfitOfFile options.now.precincts reduce limit input.now result.status misfit) }
 {
     if is_jp2(input) {
         return answer_jp2(
-            crew, alloc, files, input, to, form, options, reduce, planners,
+            crew, alloc, files, input, to, form, options, reduce, limit, planners,
         );
     }
-    answer(crew, alloc, files, input, to, options, reduce, planners)
+    answer(
+        crew, alloc, files, input, to, options, reduce, limit, planners,
+    )
 }
 
 /// Whether boxes that hold positions in the file were kept. `input` was read, and `status` is what became of it.
@@ -148,7 +152,8 @@ pub fn run<R: Threads + Wait + Sync, F: Files, S: Sink, G: Gate + Sync>(
         gate,
         work: request.work(),
     };
-    match read_input(alloc, files, request.from()) {
+    let limit = request.limit();
+    match read_input(alloc, files, request.from(), limit) {
         Ok(held) => {
             let input: &[u8] = &held;
             let form = request.form();
@@ -161,6 +166,7 @@ pub fn run<R: Threads + Wait + Sync, F: Files, S: Sink, G: Gate + Sync>(
                 form,
                 request.options(),
                 request.reduce(),
+                limit,
                 planners,
             );
             let positions = keeps_positions(form, input, ending.status);

@@ -1,9 +1,12 @@
-use Rattle.std.proofs.Common.{◌∙◌, ap, codes}
+use Rattle.std.proofs.Common.{◌∙◌, ap, codes, [], ◌∷◌}
 use Rattle.std.proofs.lemmas.Result.{IfOk-weaker}
 use Rattle.jx_cli.specs.BoxesWords.{boxes}
-use Rattle.jx_cli.specs.Command.{with_place}
+use Rattle.jx_cli.specs.Command.{with_options, with_place}
+use Rattle.jx_options.specs.declared.names.OptionName.TheVariants as option
 use Rattle.jx_cli.proofs.command.boxes.Goals as goal
 
 pub returns : goal.returns
 unfolding boxes
-returns c = IfOk-weaker c.with_words.result _ _ (λ r is. is ∙ ap (with_place (codes "in")) c.new-command.ensures.app) c.with_words.ensures
+returns c =
+    let named = c.in_ok-command.ensures ∙ ap (with_place (codes "in")) c.new-command.ensures.app in
+    IfOk-weaker c.with_options.result _ _ (λ r is. is ∙ ap (with_options (option.LimitBytes ∷ [])) named) c.with_options.ensures

@@ -9,4 +9,4 @@ pub returns : goal.returns
 unfolding same
 returns c =
     let places = c.in_ok-command.ensures ∙ ap (λ app. with_place (codes "b") (with_place (codes "a") app)) c.new-command.ensures.app in
-    IfOk-weaker c.with_options.result _ _ (λ r is. is ∙ ap (with_options (option.Threads ∷ [])) places) c.with_options.ensures
+    IfOk-weaker c.with_options.result _ _ (λ r is. is ∙ ap (with_options (option.Threads ∷ option.LimitBytes ∷ [])) places) c.with_options.ensures

@@ -1,5 +1,8 @@
-use Rattle.jx_cli.proofs.ShowLemmas.{has_show_words}
+use Rattle.jx_cli.proofs.ShowLemmas.{has_show_words, words_may_be}
 use Rattle.jx_cli.proofs.laws.show_has_words.Goals as goal
 
-pub returns : goal.returns
-returns c = λ asked. has_show_words asked
+pub returns-clause-made : goal.returns-clause-made
+returns-clause-made c = λ asked may. has_show_words asked may
+
+pub returns-clause-asked : goal.returns-clause-asked
+returns-clause-asked c = λ words good. words_may_be words

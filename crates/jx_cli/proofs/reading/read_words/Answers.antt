@@ -3,10 +3,10 @@ use Rattle.std.proofs.lemmas.List.{drop-map}
 use Rattle.std.proofs.lemmas.Result.{IfOk-weaker}
 use Rattle.jx_options.specs.Wanted.{MayBeWanted}
 use Rattle.jx_cli.specs.Words.{Request, names_command}
-use Rattle.jx_options.specs.Work.{MayBeWork}
+use Rattle.jx_options.specs.Work.{MayBeLimit, MayBeWork}
 use Rattle.jx_cli.proofs.CommandLemmas.{same_fault}
 use Rattle.jx_cli.proofs.GoodLemmas.{bad_by, good_by, requested, unnamed}
-use Rattle.jx_cli.proofs.WantedLemmas.{given_may_be, given_reduce_few, work_may_be}
+use Rattle.jx_cli.proofs.WantedLemmas.{given_limit, given_may_be, given_reduce_few, work_may_be}
 use Rattle.jx_cli.proofs.reading.read_words.Goals as goal
 
 pub returns-then-not-names_command-clause-words : goal.returns-then-not-names_command-clause-words
@@ -35,6 +35,10 @@ returns-in-Ok-clause-work c =
 pub returns-in-Ok-clause-reduce : goal.returns-in-Ok-clause-reduce
 returns-in-Ok-clause-reduce c =
     IfOk-weaker c.request_by.result _ _ (λ r is. subst (λ (asked : Request). asked.reduce ≤ 32) (sym is) (given_reduce_few c.in-Ok.given)) c.request_by.ensures.value
+
+pub returns-in-Ok-clause-limit : goal.returns-in-Ok-clause-limit
+returns-in-Ok-clause-limit c =
+    IfOk-weaker c.request_by.result _ _ (λ r is. subst (λ (asked : Request). MayBeLimit asked.limit) (sym is) (given_limit c.in-Ok.given)) c.request_by.ensures.value
 
 pub returns-in-Ok-clause-words : goal.returns-in-Ok-clause-words
 returns-in-Ok-clause-words c same =

@@ -44,5 +44,5 @@ returns-in-Done-clause-misfit g c = untold _ c.written_as.result.misfit c.writte
 
 pub returns-clause-misfit : goal.returns-clause-misfit
 returns-clause-misfit g c = rw c.raised.ensures (told_on _ _ c.answer-ending.result.misfit c.answer-ending.result.misfit (each_told c.answer-ending.result.misfit)
-    (λ m is. raised_misfit c.args.options.now.precincts c.args.reduce c.args.boxed.now.from c.content_of-inner.result.now c.args.input.now c.args.boxed.now c.answer-ending.result.status m c.content_of-inner.ensures is)
+    (λ m is. raised_misfit c.args.options.now.precincts c.args.reduce c.args.limit c.args.boxed.now.from c.content_of-inner.result.now c.args.input.now c.args.boxed.now c.answer-ending.result.status m c.content_of-inner.ensures is)
     c.answer-ending.ensures.misfit)

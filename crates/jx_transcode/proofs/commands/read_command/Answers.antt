@@ -16,7 +16,7 @@ returns-in-Ok-clause-asks c =
     )
 
 pub returns-in-Ok-clause-may : goal.returns-in-Ok-clause-may
-returns-in-Ok-clause-may c = (c.in-Ok.ensures.wanted, c.in-Ok.ensures.work, c.in-Ok.ensures.reduce)
+returns-in-Ok-clause-may c = (c.in-Ok.ensures.wanted, c.in-Ok.ensures.work, c.in-Ok.ensures.reduce, c.in-Ok.ensures.limit)
 
 pub returns-in-Ok-read_make-clause-asks : goal.returns-in-Ok-read_make-clause-asks
 returns-in-Ok-read_make-clause-asks c =
@@ -66,6 +66,12 @@ returns-in-Ok-read_show-clause-asks c = (
   c.in-Ok-read_show.ensures.good,
   c.in-Ok-read_show.ensures.value,
 )
+
+pub returns-in-Ok-read_boxes-clause-may : goal.returns-in-Ok-read_boxes-clause-may
+returns-in-Ok-read_boxes-clause-may c = c.in-Ok-read_boxes.ensures.may
+
+pub returns-in-Ok-read_show-clause-may : goal.returns-in-Ok-read_show-clause-may
+returns-in-Ok-read_show-clause-may c = c.in-Ok-read_show.ensures.may
 
 pub returns-in-Ok-read_same-clause-may : goal.returns-in-Ok-read_same-clause-may
 returns-in-Ok-read_same-clause-may c = c.in-Ok-read_same.ensures.may

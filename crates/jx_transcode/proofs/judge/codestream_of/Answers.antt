@@ -1,4 +1,5 @@
 use Rattle.std.proofs.Common.{inr, refl, rules}
+use Rattle.jx_base.specs.Limits.{most_bytes}
 use Rattle.jx_transcode.proofs.JudgeLemmas.{content_short}
 use Rattle.jx_transcode.proofs.judge.codestream_of.Goals as goal
 
@@ -6,4 +7,4 @@ pub returns-in-Ok-clause-ok : goal.returns-in-Ok-clause-ok
 returns-in-Ok-clause-ok c = inr (search rules, c.in-Ok.boxed, c.in-Ok.ensures.found, refl, c.content_of.ensures)
 
 pub returns-in-Ok-clause-within : goal.returns-in-Ok-clause-within
-returns-in-Ok-clause-within c = rw c.content_of.ensures (content_short c.args.input.now c.in-Ok.boxed c.requires.within)
+returns-in-Ok-clause-within c = rw c.content_of.ensures (content_short most_bytes c.args.input.now c.in-Ok.boxed c.requires.within)

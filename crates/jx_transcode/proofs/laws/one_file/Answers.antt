@@ -19,9 +19,9 @@ pub returns-clause-file : goal.returns-clause-file
 returns-clause-file c aim input out other short x y = one_file (laws c) c.one_output.ensures.one aim input short out other x y
 
 pub returns-clause-runs : goal.returns-clause-runs
-returns-clause-runs c name again work other aim input blocks bytes blocks2 bytes2 tape tape2 old new old2 new2 x y =
-    same_runs (laws c) c.one_output.ensures.one aim name again work other input blocks bytes blocks2 bytes2 tape tape2 old new old2 new2 x y
+returns-clause-runs c name again work other aim input blocks bytes blocks2 bytes2 tape tape2 old new old2 new2 few x y =
+    same_runs (laws c) c.one_output.ensures.one aim few name again work other input blocks bytes blocks2 bytes2 tape tape2 old new old2 new2 x y
 
 pub returns-clause-boxed : goal.returns-clause-boxed
-returns-clause-boxed c name again work other form aim input boxed boxed2 blocks bytes blocks2 bytes2 tape tape2 old new old2 new2 x y =
-    same_files (laws c) c.one_output.ensures.one aim c.one_codestream.ensures.same name again work other form input boxed boxed2 blocks bytes blocks2 bytes2 tape tape2 old new old2 new2 x y
+returns-clause-boxed c name again work other form aim input boxed boxed2 blocks bytes blocks2 bytes2 tape tape2 old new old2 new2 few x y =
+    same_files (laws c) c.one_output.ensures.one aim few c.one_codestream.ensures.same name again work other form input boxed boxed2 blocks bytes blocks2 bytes2 tape tape2 old new old2 new2 x y

@@ -15,4 +15,4 @@ returns c =
       cause = c.one_answer.ensures.cause;
       parts = c.one_output.ensures.parts;
     } in
-    lemmas.one_verdict laws
+    λ aim input s t few. lemmas.one_verdict laws aim input few s t

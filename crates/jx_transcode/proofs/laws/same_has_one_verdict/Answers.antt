@@ -16,11 +16,11 @@ returns-clause-one c =
       cause = c.one_answer.ensures.cause;
       parts = c.one_output.ensures.parts;
     } in
-    one_of_two laws (record {
+    λ limit first second s t few x y. one_of_two laws (record {
       same = c.one_codestream.ensures.same;
       either = c.one_codestream.ensures.either;
       fault = c.one_codestream.ensures.fault;
-    }) c.one_file_verdict.ensures
+    }) c.one_file_verdict.ensures limit few first second s t x y
 
 pub returns-clause-some : goal.returns-clause-some
-returns-clause-some c = some_of_two c.some_file_verdict.ensures
+returns-clause-some c = λ limit first second few. some_of_two c.some_file_verdict.ensures limit few first second

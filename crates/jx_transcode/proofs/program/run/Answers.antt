@@ -1,4 +1,4 @@
-use Rattle.std.proofs.Common.{◌∙◌, map, string_bytes}
+use Rattle.std.proofs.Common.{map, string_bytes}
 use Rattle.jx_transcode.proofs.MisfitLemmas.{each_told, told_on, untold}
 use Rattle.jx_transcode.proofs.RunLemmas.{outcome_boxes, outcome_lent, outcome_make, outcome_memory, outcome_same, outcome_show, outcome_transcode}
 use Rattle.jx_transcode.proofs.program.run.Goals as goal
@@ -16,8 +16,7 @@ returns-in-Ok-Make-clause-outcome g c = outcome_lent _ c.args.planners.items c.d
 
 pub returns-in-Ok-Boxes-clause-outcome : goal.returns-in-Ok-Boxes-clause-outcome
 returns-in-Ok-Boxes-clause-outcome g c =
-    let asks = rw c.in-Ok-Boxes.field-0-is at c.in-Ok-Boxes.ensures.asks in
-    outcome_boxes (map string_bytes c.args.words.now) c.as_str.result.now _ _ _ _ _ _ _ _ (asks.0, asks.1, asks.2, asks.3, asks.4, c.as_str.ensures.value ∙ asks.5) c.run-in-Ok-Boxes.ensures.ends
+    outcome_boxes (map string_bytes c.args.words.now) c.in-Ok-Boxes.asked _ _ _ _ _ _ _ _ (rw c.in-Ok-Boxes.field-0-is at c.in-Ok-Boxes.ensures.asks) c.run-in-Ok-Boxes.ensures.ends
 
 pub returns-in-Ok-Same-clause-outcome : goal.returns-in-Ok-Same-clause-outcome
 returns-in-Ok-Same-clause-outcome g c =

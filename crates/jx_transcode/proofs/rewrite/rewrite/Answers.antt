@@ -28,8 +28,8 @@ overflow_cast-all g c = omega (
 )
 
 pub returns-in-Err-clause-answer : goal.returns-in-Err-clause-answer
-returns-in-Err-clause-answer g c =
-    rw (c.refused_by.ensures.status, c.refused_by.ensures.none.0, c.refused_by.ensures.none.1, c.refused_by.ensures.tape) (tiles_refused _ _ _ c.args.input.now c.args.stream.now c.in-Err.fault _ c.requires.within c.requires.read c.in-Err.ensures.broken)
+returns-in-Err-clause-answer g c = λ limit within.
+    rw (c.refused_by.ensures.status, c.refused_by.ensures.none.0, c.refused_by.ensures.none.1, c.refused_by.ensures.tape) (tiles_refused _ _ _ c.args.input.now c.args.stream.now c.in-Err.fault _ within c.requires.read c.in-Err.ensures.broken)
 
 pub returns-in-Err-clause-cause : goal.returns-in-Err-clause-cause
 returns-in-Err-clause-cause g c = λ failed. absurd (input_unwritten c.in-Err.fault _ c.refused_by.ensures.status failed)
@@ -44,15 +44,15 @@ pub returns-in-Err-clause-rose : goal.returns-in-Err-clause-rose
 returns-in-Err-clause-rose g c = λ rose. absurd (omega (arith, rose))
 
 pub returns-in-Err-clause-misfit : goal.returns-in-Err-clause-misfit
-returns-in-Err-clause-misfit g c = untold _ c.refused_by.result.misfit c.refused_by.ensures.misfit
+returns-in-Err-clause-misfit g c = λ limit within. untold _ c.refused_by.result.misfit c.refused_by.ensures.misfit
 
 -- ---- nothing is left out
 pub returns-then-reduce-eq0-clause-answer : goal.returns-then-reduce-eq0-clause-answer
-returns-then-reduce-eq0-clause-answer g c =
+returns-then-reduce-eq0-clause-answer g c = λ limit within.
     let laws : WholeLaws = record { may = c.gathered_may_be_planned.ensures; stream = c.whole_stays.ensures.stream; blocks = c.whole_stays.ensures.blocks; free = c.whole_stays.ensures.free } in
     let reads = reads_of c.args.input.now c.args.stream.now c.in-Ok.blocks.items c.requires.read c.in-Ok.ensures.totals c.in-Ok.ensures.gathered in
     rw c.if-reduce-eq0.true
-    (c.rewrite_left.ensures.answer 0 c.args.input.now c.requires.within (rw c.deref-all.ensures.value (all_left laws c.args.input.now c.args.stream.now c.in-Ok.blocks.items c.requires.within reads)))
+    (c.rewrite_left.ensures.answer 0 limit c.args.input.now within (rw c.deref-all.ensures.value (all_left laws c.args.input.now c.args.stream.now c.in-Ok.blocks.items c.requires.within reads)))
 
 pub returns-then-reduce-eq0-clause-cause : goal.returns-then-reduce-eq0-clause-cause
 returns-then-reduce-eq0-clause-cause g c = c.rewrite_left.ensures.cause
@@ -67,15 +67,15 @@ pub returns-then-reduce-eq0-clause-other : goal.returns-then-reduce-eq0-clause-o
 returns-then-reduce-eq0-clause-other g c = c.rewrite_left.ensures.other
 
 pub returns-then-reduce-eq0-clause-misfit : goal.returns-then-reduce-eq0-clause-misfit
-returns-then-reduce-eq0-clause-misfit g c =
+returns-then-reduce-eq0-clause-misfit g c = λ limit within.
     let laws : WholeLaws = record { may = c.gathered_may_be_planned.ensures; stream = c.whole_stays.ensures.stream; blocks = c.whole_stays.ensures.blocks; free = c.whole_stays.ensures.free } in
     let reads = reads_of c.args.input.now c.args.stream.now c.in-Ok.blocks.items c.requires.read c.in-Ok.ensures.totals c.in-Ok.ensures.gathered in
     rw c.if-reduce-eq0.true
-    (c.rewrite_left.ensures.misfit 0 c.args.input.now c.requires.within (rw c.deref-all.ensures.value (all_left laws c.args.input.now c.args.stream.now c.in-Ok.blocks.items c.requires.within reads)))
+    (c.rewrite_left.ensures.misfit 0 limit c.args.input.now within (rw c.deref-all.ensures.value (all_left laws c.args.input.now c.args.stream.now c.in-Ok.blocks.items c.requires.within reads)))
 
 -- ---- what is left
 pub returns-in-Ok-reduce-clause-answer : goal.returns-in-Ok-reduce-clause-answer
-returns-in-Ok-reduce-clause-answer g c =
+returns-in-Ok-reduce-clause-answer g c = λ limit within.
     let reads = reads_of c.args.input.now c.args.stream.now c.in-Ok.blocks.items c.requires.read c.in-Ok.ensures.totals c.in-Ok.ensures.gathered in
     let left : ReadsLeft c.args.reduce c.args.input.now c.in-Ok-reduce.left.0 c.deref-few.result.now = record {
       whole = c.args.stream.now;
@@ -85,7 +85,7 @@ returns-in-Ok-reduce-clause-answer g c =
       stream = c.in-Ok-reduce.ensures.stream;
       blocks_are = rw c.deref-few.ensures.value (rw (sym c.deref-all.ensures.value) c.in-Ok-reduce.ensures.blocks);
     } in
-    c.rewrite_left-in-Ok-reduce.ensures.answer c.args.reduce c.args.input.now c.requires.within left
+    c.rewrite_left-in-Ok-reduce.ensures.answer c.args.reduce limit c.args.input.now within left
 
 pub returns-in-Ok-reduce-clause-cause : goal.returns-in-Ok-reduce-clause-cause
 returns-in-Ok-reduce-clause-cause g c = c.rewrite_left-in-Ok-reduce.ensures.cause
@@ -100,7 +100,7 @@ pub returns-in-Ok-reduce-clause-other : goal.returns-in-Ok-reduce-clause-other
 returns-in-Ok-reduce-clause-other g c = c.rewrite_left-in-Ok-reduce.ensures.other
 
 pub returns-in-Ok-reduce-clause-misfit : goal.returns-in-Ok-reduce-clause-misfit
-returns-in-Ok-reduce-clause-misfit g c =
+returns-in-Ok-reduce-clause-misfit g c = λ limit within.
     let reads = reads_of c.args.input.now c.args.stream.now c.in-Ok.blocks.items c.requires.read c.in-Ok.ensures.totals c.in-Ok.ensures.gathered in
     let left : ReadsLeft c.args.reduce c.args.input.now c.in-Ok-reduce.left.0 c.deref-few.result.now = record {
       whole = c.args.stream.now;
@@ -110,16 +110,16 @@ returns-in-Ok-reduce-clause-misfit g c =
       stream = c.in-Ok-reduce.ensures.stream;
       blocks_are = rw c.deref-few.ensures.value (rw (sym c.deref-all.ensures.value) c.in-Ok-reduce.ensures.blocks);
     } in
-    c.rewrite_left-in-Ok-reduce.ensures.misfit c.args.reduce c.args.input.now c.requires.within left
+    c.rewrite_left-in-Ok-reduce.ensures.misfit c.args.reduce limit c.args.input.now within left
 
 -- ---- so many can't be left out
 pub returns-in-Err-reduce-clause-answer : goal.returns-in-Err-reduce-clause-answer
-returns-in-Err-reduce-clause-answer g c =
+returns-in-Err-reduce-clause-answer g c = λ limit within.
     let laws : WholeLaws = record { may = c.gathered_may_be_planned.ensures; stream = c.whole_stays.ensures.stream; blocks = c.whole_stays.ensures.blocks; free = c.whole_stays.ensures.free } in
     let reads = reads_of c.args.input.now c.args.stream.now c.in-Ok.blocks.items c.requires.read c.in-Ok.ensures.totals c.in-Ok.ensures.gathered in
     rw (c.unreduced_by.ensures.status, c.unreduced_by.ensures.blocks.0, c.unreduced_by.ensures.blocks.1, c.unreduced_by.ensures.tape)
     (answered_unreduced laws c.args.to.now c.args.crew.now.work _ c.args.input.now c.args.stream.now c.in-Ok.blocks.items c.in-Err-reduce.fault _ _ c.in-Err-reduce.ensures.cause
-    (ap (λ (bs : List Block). length bs) c.deref-all.ensures.value) c.requires.within reads)
+    (ap (λ (bs : List Block). length bs) c.deref-all.ensures.value) within c.requires.within reads)
 
 pub returns-in-Err-reduce-clause-cause : goal.returns-in-Err-reduce-clause-cause
 returns-in-Err-reduce-clause-cause g c = λ failed. absurd (all_unwritten c.in-Err-reduce.fault _ c.unreduced_by.ensures.status failed)
@@ -134,4 +134,4 @@ pub returns-in-Err-reduce-clause-other : goal.returns-in-Err-reduce-clause-other
 returns-in-Err-reduce-clause-other g c = refl
 
 pub returns-in-Err-reduce-clause-misfit : goal.returns-in-Err-reduce-clause-misfit
-returns-in-Err-reduce-clause-misfit g c = untold _ c.unreduced_by.result.misfit c.unreduced_by.ensures.misfit
+returns-in-Err-reduce-clause-misfit g c = λ limit within. untold _ c.unreduced_by.result.misfit c.unreduced_by.ensures.misfit

@@ -20,7 +20,7 @@ pub anew_in-requires : goal.anew_in-requires
 anew_in-requires g c = omega (arith, jobs_few c.in-Ok.plan c.jobs-jobs.ensures.plan, ap (λ (js : List Job). length js) c.jobs-jobs.ensures.value)
 
 pub returns-in-Err-clause-answer : goal.returns-in-Err-clause-answer
-returns-in-Err-clause-answer g c = λ d input within reads.
+returns-in-Err-clause-answer g c = λ d limit input within reads.
     rw (c.unplanned_by.ensures.status, c.unplanned_by.ensures.blocks.0, c.unplanned_by.ensures.blocks.1, c.unplanned_by.ensures.tape)
     (answered_unplanned c.args.to.now c.args.crew.now.work _ input c.args.stream.now c.args.blocks.now c.in-Err.fault _ _
     (rw (sym c.shortened.ensures) c.in-Err.ensures.cause) refl within reads)
@@ -38,7 +38,7 @@ pub returns-in-Err-clause-rose : goal.returns-in-Err-clause-rose
 returns-in-Err-clause-rose g c = λ rose. absurd (omega (arith, rose))
 
 pub returns-clause-answer : goal.returns-clause-answer
-returns-clause-answer g c = λ d input within reads.
+returns-clause-answer g c = λ d limit input within reads.
     let laws : Laws = record {
       blocks = c.plans_write_these_blocks.ensures.blocks;
       free = c.plans_write_these_blocks.ensures.free;
@@ -73,10 +73,10 @@ pub misfit_of-misfit-requires-clause-tile : goal.misfit_of-misfit-requires-claus
 misfit_of-misfit-requires-clause-tile g c = caused_tile _ c.args.stream.now _ c.args.options.now c.in-Err.fault c.in-Err.ensures.cause
 
 pub returns-in-Err-clause-misfit : goal.returns-in-Err-clause-misfit
-returns-in-Err-clause-misfit g c = λ d input within reads.
+returns-in-Err-clause-misfit g c = λ d limit input within reads.
     told_on _ _ c.misfit_of-misfit.result c.unplanned_by.result.misfit c.unplanned_by.ensures.misfit
-    (λ m is. planned_misfit c.args.options.now.precincts d input c.args.stream.now c.args.blocks.now c.in-Err.fault c.unplanned_by.result.status m within reads c.unplanned_by.ensures.status is)
+    (λ m is. planned_misfit c.args.options.now.precincts d limit input c.args.stream.now c.args.blocks.now c.in-Err.fault c.unplanned_by.result.status m within reads c.unplanned_by.ensures.status is)
     c.misfit_of-misfit.ensures
 
 pub returns-clause-misfit : goal.returns-clause-misfit
-returns-clause-misfit g c = λ d input within reads. untold _ c.ending_of.result.misfit c.ending_of.ensures.misfit
+returns-clause-misfit g c = λ d limit input within reads. untold _ c.ending_of.result.misfit c.ending_of.ensures.misfit

@@ -5,7 +5,7 @@ use Rattle.jx_transcode.proofs.StatusLemmas.{failed_unread, unread_either, unrea
 use Rattle.jx_transcode.proofs.commands.same.compare_second.Goals as goal
 
 pub returns-in-Err-clause-told : goal.returns-in-Err-clause-told
-returns-in-Err-clause-told g c = second_unread c.args.name.now c.args.stream.now c.args.blocks.now c.unread_as.result _ _ (unread_either c.in-Err.refused _ c.unread_as.ensures) c.in-Err.ensures.same
+returns-in-Err-clause-told g c = second_unread c.args.limit c.args.name.now c.args.stream.now c.args.blocks.now c.unread_as.result _ _ (unread_either c.in-Err.refused _ c.unread_as.ensures) c.in-Err.ensures.same
 
 pub returns-in-Err-clause-read : goal.returns-in-Err-clause-read
 returns-in-Err-clause-read g c = λ failed. c.in-Err.ensures.cause.failed (unread_failed c.in-Err.refused _ c.unread_as.ensures failed)
@@ -17,7 +17,7 @@ pub returns-in-Err-clause-read_rose : goal.returns-in-Err-clause-read_rose
 returns-in-Err-clause-read_rose g c = λ rose. failed_unread c.in-Err.refused _ c.unread_as.ensures (c.in-Err.ensures.cause.rose rose)
 
 pub returns-in-Ok-accept-clause-told : goal.returns-in-Ok-accept-clause-told
-returns-in-Ok-accept-clause-told g c = second_answered c.compare.result c.args.name.now c.deref.result.now c.args.stream.now c.args.blocks.now c.in-Ok-accept.second.stream c.in-Ok-accept.second.blocks.items c.answer_status.result _ _
+returns-in-Ok-accept-clause-told g c = second_answered c.compare.result c.args.limit c.args.name.now c.deref.result.now c.args.stream.now c.args.blocks.now c.in-Ok-accept.second.stream c.in-Ok-accept.second.blocks.items c.answer_status.result _ _
     c.answer_status.ensures (rw c.deref.ensures.value c.in-Ok.ensures.bytes) c.in-Ok.ensures.same c.in-Ok-accept.ensures.ok (rw c.deref-others.ensures.value at c.compare.ensures.first)
 
 pub returns-in-Ok-accept-clause-read : goal.returns-in-Ok-accept-clause-read
@@ -30,11 +30,11 @@ pub returns-in-Ok-accept-clause-read_rose : goal.returns-in-Ok-accept-clause-rea
 returns-in-Ok-accept-clause-read_rose g c = λ rose. absurd (omega (arith, unrisen _ _ _ c.in-Ok.ensures.cause, rose))
 
 pub returns-clause-told : goal.returns-clause-told
-returns-clause-told g c = second_unfit c.args.name.now c.deref.result.now c.args.stream.now c.args.blocks.now c.in-Err-accept.status c.second_status.result _ _ c.second_status.ensures (rw c.deref.ensures.value c.in-Ok.ensures.bytes)
+returns-clause-told g c = second_unfit c.args.limit c.args.name.now c.deref.result.now c.args.stream.now c.args.blocks.now c.in-Err-accept.status c.second_status.result _ _ c.second_status.ensures (rw c.deref.ensures.value c.in-Ok.ensures.bytes)
     c.in-Ok.ensures.same c.in-Err-accept.ensures.err
 
 pub returns-clause-read : goal.returns-clause-read
-returns-clause-read g c = λ failed. absurd (second_unfit_unread c.deref.result.now c.in-Err-accept.status _ c.second_status.ensures c.in-Err-accept.ensures.err failed)
+returns-clause-read g c = λ failed. absurd (second_unfit_unread c.args.limit c.deref.result.now c.in-Err-accept.status _ c.second_status.ensures c.in-Err-accept.ensures.err failed)
 
 pub returns-clause-absent : goal.returns-clause-absent
 returns-clause-absent g c = λ absent. absurd (c.in-Ok.ensures.there absent)

@@ -25,7 +25,7 @@ returns-in-Err-clause-unsaid g c = unsaid _ _ _ _ _ _ _ c.refuse.ensures.ends
 pub returns-in-Ok-lines_of-clause-ends : goal.returns-in-Ok-lines_of-clause-ends
 returns-in-Ok-lines_of-clause-ends g c = rw (c.say_lines.ensures.none, c.say_lines.ensures.tape)
     (lines_said _ _ c.args.asked.now.name status.Done c.say_lines.result.status c.as_str.result.now _ _ _ _ _ _
-    (shown_to_say c.args.asked.now c.deref.result.now c.as_str.result.now _ _ (rw (sym c.name.ensures, c.deref.ensures.value) c.in-Ok.ensures.bytes) c.in-Ok.ensures.same (rw (sym c.json.ensures, c.as_str.ensures.value) c.in-Ok-lines_of.ensures.shown)) c.say_lines.ensures.says)
+    (shown_to_say c.args.asked.now c.deref.result.now c.as_str.result.now _ _ (rw (sym c.name.ensures, sym c.limit-limit.ensures, c.deref.ensures.value) c.in-Ok.ensures.bytes) c.in-Ok.ensures.same (rw (sym c.json.ensures, sym c.limit-limit.ensures, c.as_str.ensures.value) c.in-Ok-lines_of.ensures.shown)) c.say_lines.ensures.says)
 
 pub returns-in-Ok-lines_of-clause-read : goal.returns-in-Ok-lines_of-clause-read
 returns-in-Ok-lines_of-clause-read g c = read_said _ _ _ _ _ _ _ (λ failed. absurd (done_sound.0 failed)) c.say_lines.ensures.says
@@ -39,13 +39,13 @@ returns-in-Ok-lines_of-clause-unsaid g c = unsaid _ _ _ _ _ _ _ c.say_lines.ensu
 pub returns-clause-ends : goal.returns-clause-ends
 returns-clause-ends g c = rw (c.refuse-in-Err-lines_of.ensures.none, c.refuse-in-Err-lines_of.ensures.tape)
     (lines_said _ _ c.args.asked.now.name c.in-Err-lines_of.status c.refuse-in-Err-lines_of.result.status _ _ _ _ _ _ _
-    (unshown_to_say c.args.asked.now c.deref.result.now c.in-Err-lines_of.status _ _ (rw (sym c.name.ensures, c.deref.ensures.value) c.in-Ok.ensures.bytes) c.in-Ok.ensures.same c.in-Err-lines_of.ensures.refused) c.refuse-in-Err-lines_of.ensures.ends)
+    (unshown_to_say c.args.asked.now c.deref.result.now c.in-Err-lines_of.status _ _ (rw (sym c.name.ensures, sym c.limit-limit.ensures, c.deref.ensures.value) c.in-Ok.ensures.bytes) c.in-Ok.ensures.same (rw (sym c.limit-limit.ensures) c.in-Err-lines_of.ensures.refused)) c.refuse-in-Err-lines_of.ensures.ends)
 
 pub returns-clause-read : goal.returns-clause-read
-returns-clause-read g c = read_said _ _ _ _ _ _ _ (λ failed. absurd ((unfit_unread c.deref.result.now c.in-Err-lines_of.status c.in-Err-lines_of.ensures.refused).0 failed)) c.refuse-in-Err-lines_of.ensures.ends
+returns-clause-read g c = read_said _ _ _ _ _ _ _ (λ failed. absurd ((unfit_unread c.limit-limit.result c.deref.result.now c.in-Err-lines_of.status c.in-Err-lines_of.ensures.refused).0 failed)) c.refuse-in-Err-lines_of.ensures.ends
 
 pub returns-clause-write : goal.returns-clause-write
-returns-clause-write g c = write_alone _ _ _ _ _ _ _ (unfit_unread c.deref.result.now c.in-Err-lines_of.status c.in-Err-lines_of.ensures.refused).1 c.refuse-in-Err-lines_of.ensures.ends
+returns-clause-write g c = write_alone _ _ _ _ _ _ _ (unfit_unread c.limit-limit.result c.deref.result.now c.in-Err-lines_of.status c.in-Err-lines_of.ensures.refused).1 c.refuse-in-Err-lines_of.ensures.ends
 
 pub returns-clause-unsaid : goal.returns-clause-unsaid
 returns-clause-unsaid g c = unsaid _ _ _ _ _ _ _ c.refuse-in-Err-lines_of.ensures.ends
