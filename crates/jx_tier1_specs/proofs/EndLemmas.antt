@@ -11,7 +11,8 @@ use Rattle.jx_tier1_specs.specs.Cells.{Cells}
 use Rattle.jx_tier1_specs.specs.Reading.{Reading, fresh_reading, first_segment, looked_of}
 use Rattle.jx_tier1_specs.specs.Needs.{segment_of, contexts_after, segments_from, is_last}
 use Rattle.jx_tier1_specs.specs.Writing.{Writing, fresh_writing, wrote, segment_by}
-use Rattle.jx_tier1_specs.specs.Ends.{Stand, stand_of, end_in, ends_from}
+use Rattle.jx_tier1_specs.specs.declared.stand.Stand.{Stand}
+use Rattle.jx_tier1_specs.specs.Ends.{stand_of, end_in, ends_from}
 use Rattle.jx_tier1_specs.proofs.KindLemmas.{same_kind}
 use Rattle.jx_tier1_specs.proofs.WroteLemmas.{wrote_more, wrote_target, or_false}
 use Rattle.jx_tier1_specs.proofs.SegmentLemmas.{wrote_mq, wrote_bits, segment_is, contexts_is}
@@ -107,8 +108,8 @@ seen_from style pass r rest [] = []
 seen_from style pass r rest (given ∷ more) =
     looked_of (read_all r given)
     ∷ (if end_pass style pass
-      then seen_from style (pass + 1) (fresh_reading (raw_pass style (pass + 1)) (first_segment rest) (read_all r given).contexts) (drop 1 rest) more
-      else seen_from style (pass + 1) (read_all r given) rest more)
+    then seen_from style (pass + 1) (fresh_reading (raw_pass style (pass + 1)) (first_segment rest) (read_all r given).contexts) (drop 1 rest) more
+    else seen_from style (pass + 1) (read_all r given) rest more)
 
 abbrev pub seen_tail : Bool → ℕ → ℕ → Reading → List (List ℕ) → List (List MqGiven) → List ℕ
 seen_tail ends style pass r rest more =

@@ -11,7 +11,8 @@ use Rattle.jx_tier1_specs.specs.Segments.{begins}
 use Rattle.jx_tier1_specs.specs.Reading.{Reading, Coding, Decoding, fresh_reading, first_segment, looked_of, opened, read_within, read_pass, read_from, zeros, at_start, decoded}
 use Rattle.jx_tier1_specs.specs.Needs.{segment_of, contexts_after, segments_from, followed_pass, pass_needs, needs_from, needs, written, is_last}
 use Rattle.jx_tier1_specs.specs.Writing.{Writing, fresh_writing, wrote, segment_by}
-use Rattle.jx_tier1_specs.specs.Ends.{Stand, stand_of, end_in, ends_from}
+use Rattle.jx_tier1_specs.specs.declared.stand.Stand.{Stand}
+use Rattle.jx_tier1_specs.specs.Ends.{stand_of, end_in, ends_from}
 use Rattle.jx_tier1_specs.proofs.KindLemmas.{same_kind}
 use Rattle.jx_tier1_specs.proofs.WroteLemmas.{wrote_more, wrote_target, or_false}
 use Rattle.jx_tier1_specs.proofs.SegmentLemmas.{segment_is, contexts_is}
@@ -189,17 +190,18 @@ reads_seen i c g (suc count) pass d h =
     p0.rest
     (all ∙ ap (λ (x : Cells). after.looked ++ seen_from c.style (pass + 1) A.reading A.rest (needs_from c g count (pass + 1) x)) cells)
 
+start_told : AreInverse → AreTold → (c : Coding) (g : Cells) (n : ℕ)
+    → all_seen c.style 0 mq_fresh [] [] (needs c g n) (written c g n) ≡ ends_from c.style 0 [] (fresh_writing g (raw_pass c.style 0) mq_fresh) (needs c g n)
+unfolding needs_from
+start_told i t c g zero = nothing_seen c.style 0 _ _ ∙ sym (none_told c.style 0 (fresh_writing g (raw_pass c.style 0) mq_fresh))
+start_told i t c g (suc n) = all_told i t c.style g (pass_needs c g 0 (zeros g.width g.height)) (needs_from c g n (0 + 1) (followed_pass c g 0 (zeros g.width g.height))) 0 mq_fresh [] []
+
 -- all passes of written segments
 pub passes_told : AreInverse → AreTold → (c : Coding) (g : Cells) (passes : ℕ)
     → (decoded g.width g.height c (written c g passes) passes).looked ≡ ends_from c.style 0 [] (fresh_writing g (raw_pass c.style 0) mq_fresh) (needs c g passes)
 unfolding decoded
 passes_told i t c g passes =
-    reads_seen i c g passes 0 (at_start g.width g.height (written c g passes)) (first_ready i c g passes g.width g.height) ∙ start_told passes
-  where
-    start_told : (n : ℕ) → all_seen c.style 0 mq_fresh [] [] (needs c g n) (written c g n) ≡ ends_from c.style 0 [] (fresh_writing g (raw_pass c.style 0) mq_fresh) (needs c g n)
-    unfolding needs_from
-    start_told zero = nothing_seen c.style 0 _ _ ∙ sym (none_told c.style 0 (fresh_writing g (raw_pass c.style 0) mq_fresh))
-    start_told (suc n) = all_told i t c.style g (pass_needs c g 0 (zeros g.width g.height)) (needs_from c g n (0 + 1) (followed_pass c g 0 (zeros g.width g.height))) 0 mq_fresh [] []
+    reads_seen i c g passes 0 (at_start g.width g.height (written c g passes)) (first_ready i c g passes g.width g.height) ∙ start_told i t c g passes
 
 -- ---- the first passes of any segments
 record Goes (first all : List ℕ) (count : ℕ) : Type 0 where

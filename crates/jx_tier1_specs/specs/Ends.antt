@@ -3,15 +3,11 @@ use Rattle.std.specs.Prelude.{ℕ, ◌+◌, ◌-◌, Bool, ◌||◌, List, [], �
 use Rattle.jx_coder_specs.specs.MqWriting.{MqGiven}
 use Rattle.jx_coder_specs.specs.RawBits.{raw_write, raw_looked, looked_from}
 use Rattle.jx_base.specs.Passes.{raw_pass, end_pass}
+use Rattle.jx_tier1_specs.specs.declared.stand.Stand.{Stand}
 use Rattle.jx_tier1_specs.specs.Needs.{is_last}
 use Rattle.jx_tier1_specs.specs.Writing.{Writing, fresh_writing, wrote, segment_by}
 
--- where an encoder stands within a segment: the bytes that it gave out, and the places that wait behind them
-pub record Stand : Type 0 where
-  pub given : ℕ
-  pub places : ℕ
-
--- of raw bits the bytes are known that have them
+-- where an encoder stands within its segment: of raw bits the bytes are known that have them
 abbrev pub stand_of : Writing → Stand
 stand_of w =
     if w.raw then record { given = raw_looked (raw_write w.bits) (length w.bits); places = 0 }
