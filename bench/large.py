@@ -5,8 +5,9 @@ usage: bench/large.py PROGRAM [--picture PICTURE.ppm] [--most MIB] [--ends] FOLD
 
 A picture (RGB, 8 bits; without one it is made as bench/regroup.py makes it) is coded without loss by Debian's opj_compress (libopenjp2-tools)
 in tiles of 256 by 256, and its tiles are repeated to pictures of 6 by 5, 16 by 16, 32 by 32, 64 by 64, 88 by 88 and 128 by 128 tiles, from
-4 MB to over 2 GiB, as far as --most goes. Of each size: medians of three runs in turn of `cp` and of `transcode --order rpcl --plt`, elapsed
-seconds, and the most memory in parts of the file. Then the largest: every code-block is coded anew by four workers, `same` compares what was
+4 MB to over 2 GiB, as far as --most goes. Of each size: medians of three runs in turn of `cp`, of `cp` and `sync` of the copy (the program
+brings its file to the disk before it has its name, `cp` doesn't), and of `transcode --order rpcl --plt`, elapsed seconds, and the most memory
+in parts of the file. Then the largest: every code-block is coded anew by four workers, `same` compares what was
 written with the file, OpenJPEG reads its headers and decodes its first and its last tile. A file of one tile is regrouped for its memory.
 
 With --ends it does nothing but tell files of 2^32 - 1 and of 2^32 bytes apart, which are sparse: the first has no SOC (rule 1), the second
@@ -75,18 +76,20 @@ def run(words, wanted=0):
 
 
 def measured(program, source, out):
-    """Medians of `cp` and of regrouping in turn, and the most memory of the second."""
-    copies, regroupings, memory = [], [], 0
+    """Medians of `cp`, of `cp` and `sync`, and of regrouping in turn, and the most memory of the last."""
+    copies, synced, regroupings, memory = [], [], [], 0
     for _ in range(RUNS):
         for name in (out, out + ".cp"):
             if os.path.exists(name):
                 os.remove(name)
         copies.append(run(["cp", source, out + ".cp"])[0])
+        os.remove(out + ".cp")
+        synced.append(run(["sh", "-c", 'cp "$0" "$1" && sync "$1"', source, out + ".cp"])[0])
         seconds, kib, _ = run([program, "transcode", source, out, "--order", "rpcl", "--plt", *LIMIT])
         regroupings.append(seconds)
         memory = max(memory, kib)
     os.remove(out + ".cp")
-    return statistics.median(copies), statistics.median(regroupings), memory
+    return *(statistics.median(seconds) for seconds in (copies, synced, regroupings)), memory
 
 
 def largest(program, source, path, tiles):
@@ -162,8 +165,8 @@ def main(words):
             break
         os.replace(path("next.j2k"), path("in.j2k"))
         last = wide * high
-        copy, regroup, kib = measured(program, path("in.j2k"), path("out.j2k"))
-        print(f"{wide} by {high} tiles, {size} bytes: cp {copy:.3f} s, regrouping {regroup:.3f} s, {regroup / copy:.2f} of cp, {size / regroup / 1e6:.0f} MB a second, {kib * 1024 / size:.3f} of the file in memory", flush=True)
+        copy, synced, regroup, kib = measured(program, path("in.j2k"), path("out.j2k"))
+        print(f"{wide} by {high} tiles, {size} bytes: cp {copy:.3f} s, cp and sync {synced:.3f} s, regrouping {regroup:.3f} s, {regroup / copy:.2f} and {regroup / synced:.2f} of them, {size / regroup / 1e6:.0f} MB a second, {kib * 1024 / size:.3f} of the file in memory", flush=True)
     if last:
         largest(program, path("in.j2k"), path, last)
 

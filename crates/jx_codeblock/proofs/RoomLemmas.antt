@@ -32,13 +32,16 @@ before_most (s ∷ ss) (suc k) =
     omega (arith, before_most ss k, sum_by-cons (λ (t : List ℕ). length t) s (take k ss), sum_by-cons (λ (t : List ℕ). length t) s (take (length ss) ss))
 
 -- what was looked at lies within the bytes up to the end of its segment
-pub few_bytes : (style passes at before : ℕ) (ss : List (List ℕ)) (looked : List ℕ) → AreFew style ss looked → bytes_before ss (length ss) ≤ most_bytes
-    → before ≡ bytes_before ss at → at ≡ ends_below style (passes + 1) → end_pass style passes ≡ false → before + get_or looked passes 0 ≤ most_bytes
-few_bytes style passes at before ss looked few most b a flat =
-    let still : ends_below style (passes + 1) ≡ ends_below style passes = below_still style passes flat in
-    let here : get_or looked passes 0 ≤ length (get_or ss (ends_below style passes) []) = few passes in
-    let same : at ≡ ends_below style passes = a ∙ still in
-    let here' : get_or looked passes 0 ≤ length (get_or ss at []) = rw same here in
+pub few_bytes : (style passes from at before : ℕ) (slices : List (Bor (List ℕ))) (looked : List ℕ) → AreFew style (map bytes_of slices) looked
+    → bytes_before (map bytes_of slices) (length slices) ≤ most_bytes → before ≡ bytes_before (map bytes_of slices) at → at ≡ ends_below style passes → from + 1 ≡ passes
+    → end_pass style from ≡ false → before + get_or looked from 0 ≤ most_bytes
+few_bytes style passes from at before slices looked few most b a next flat =
+    let ss : List (List ℕ) = map bytes_of slices in
+    let l : length ss ≡ length slices = length-map slices bytes_of in
+    let most' : bytes_before ss (length ss) ≤ most_bytes = rw l most in
+    let here : get_or looked from 0 ≤ length (get_or ss (ends_below style from) []) = few from in
+    let same : at ≡ ends_below style from = a ∙ ap (ends_below style) (sym next) ∙ below_still style from flat in
+    let here' : get_or looked from 0 ≤ length (get_or ss at []) = rw same here in
     omega (arith, before_more ss at, before_most ss (at + 1))
 
 -- the segment after a pass

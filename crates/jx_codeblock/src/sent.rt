@@ -70,7 +70,7 @@ fn less_last_ff(segment: &[u8], looked: usize) -> usize
 
 /// How many bytes are sent by the end of `passes` passes, of `all` passes, where `before` are in the
 /// segments before the one of number `at`.
-#[tactic(auto, unfolding(crate::specs::Segments::sent_by_looks), using(crate::proofs::RoomLemmas::few_bytes))]
+#[tactic(auto, unfolding(crate::specs::Segments::sent_by_looks))]
 fn sent_at(
     style: Style,
     all: u16,

@@ -30,7 +30,7 @@ const TURNS: u64 = 10_000;
 /// How often it looks for what has to come: minutes, so a busy machine has started both threads by then.
 pub(crate) const MANY: u64 = 1_000_000_000;
 
-pub(crate) const MOST: u32 = 1 << 28;
+pub(crate) const MOST: u32 = u32::MAX;
 
 /// A block that is kept, or coded anew without symbols.
 #[tactic(auto, using(crate::proofs::Samples::asked_whole))]

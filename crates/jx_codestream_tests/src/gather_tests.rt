@@ -3,7 +3,7 @@
 
 use crate::checks::equal_at;
 use crate::files::{EOC, MAIN, MOST_TILES, PART, Parts, SIZ, TWO, file_of};
-use jx_base::Block;
+use jx_base::{Block, MOST_BYTES};
 use jx_codestream::{StreamFault, read_stream};
 use jx_tier2_reader::gather;
 use std::alloc::{AllocError, Global};
@@ -32,7 +32,7 @@ fn facts_of(alloc: Global, blocks: &[Block<'_>]) -> Result<Vec<Facts>, AllocErro
 
 /// The blocks of a file.
 pub(crate) fn facts_in(alloc: Global, bytes: &[u8]) -> Result<Vec<Facts>, StreamFault> {
-    if bytes.len() > 1 << 28 {
+    if bytes.len() > MOST_BYTES {
         return Err(StreamFault::NoMemory);
     }
     let stream = read_stream(alloc, bytes)?;

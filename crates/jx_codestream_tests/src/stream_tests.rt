@@ -7,7 +7,7 @@ ghost use Rattle.jx_codestream.specs.InRange.{StreamInRange};
 
 use crate::checks::{check, equal_at};
 use crate::files::{EOC, MAIN, MOST_TILES, PART, Parts, SIZ, TWO, file_of};
-use jx_base::Band;
+use jx_base::{Band, MOST_BYTES};
 use jx_codestream::{Body, Params, Stream, StreamFault, Tile, read_stream};
 use jx_marker::{Progression, Segment};
 use std::alloc::Global;
@@ -20,7 +20,7 @@ pub(crate) fn stream_of(alloc: Global, parts: &[(&str, u16)]) -> Result<Stream, 
     ensures range { IfOk result (λ stream. StreamInRange stream) }
 {
     let file = file_of(alloc, parts)?;
-    if file.len() > 1 << 28 {
+    if file.len() > MOST_BYTES {
         return Err(StreamFault::NoMemory);
     }
     read_stream(alloc, &file)

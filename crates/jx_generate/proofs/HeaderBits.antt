@@ -1,4 +1,4 @@
--- How many bytes a packet header has, by the code-blocks that it may tell of (ITU-T T.800, B.10): at most 524 bits for each of 13 planes, and 463
+-- How many bytes a packet header has, by the code-blocks that it may tell of (ITU-T T.800, B.10): at most 552 bits for each of 13 planes, and 463
 -- for each part that a layer has of it. A query of a tag tree has at most as many bits as its threshold and its nodes.
 use Rattle.std.proofs.Common.{◌≡◌, ◌∙◌, ◌<◌, ◌≤◌, ◌+◌, ◌-◌, ◌*◌, ◌==◌, nat_le, nat_lt, min, max, ℕ, zero, suc, Bool, true, false, arith, List, [], ◌∷◌, ◌++◌, drop, take, length, replicate, slice_index_or, slice_set, refl, ap, subst, inl, inr, length-append, length-drop, length-take, Option, None, Some, if◌then◌else◌}
 use Rattle.std.proofs.lemmas.Bool.{cases_Bool, or_parts}
@@ -31,9 +31,9 @@ way_long (suc n) level node = by (is_root level) (way_long n (over level) (paren
     by true h = omega arith
     by false h = omega arith
 
-way_few : (wide high leaf : ℕ) → length (way wide high leaf) ≤ 21
+way_few : (wide high leaf : ℕ) → length (way wide high leaf) ≤ 23
 unfolding way
-way_few wide high leaf = way_long 20 (base wide high) leaf
+way_few wide high leaf = way_long 22 (base wide high) leaf
 
 last_few : (b : Bool) → length (if b then true ∷ [] else []) ≤ 1
 last_few true = omega arith
@@ -69,12 +69,12 @@ walk_few : (values : ℕ → ℕ) (threshold : ℕ) (nodes : List Node) (ns : Li
 walk_few values threshold nodes [] = omega arith
 walk_few values threshold nodes (n ∷ ns) = step_few values threshold n (length ns) (walk values threshold nodes ns) (walk_few values threshold nodes ns)
 
-pub query_few : (values : ℕ → ℕ) (tree : Tree) (leaf threshold : ℕ) → length (query values tree leaf threshold).bits ≤ threshold + 21
+pub query_few : (values : ℕ → ℕ) (tree : Tree) (leaf threshold : ℕ) → length (query values tree leaf threshold).bits ≤ threshold + 23
 query_few values tree leaf threshold =
     omega (arith, walk_few values threshold tree.nodes (way tree.wide tree.high leaf), way_few tree.wide tree.high leaf)
 
 -- ---- a block
-asked_few : (values : ℕ → ℕ) (tree : Tree) (leaf n more : ℕ) → n + more ≤ 13 → length (all_bits values tree (asked leaf n more)) ≤ 34 * more
+asked_few : (values : ℕ → ℕ) (tree : Tree) (leaf n more : ℕ) → n + more ≤ 13 → length (all_bits values tree (asked leaf n more)) ≤ 36 * more
 asked_few values tree leaf n zero le = omega arith
 asked_few values tree leaf n (suc more) le =
     let here : List Bool = (query values tree leaf (n + 1)).bits in
@@ -83,11 +83,11 @@ asked_few values tree leaf n (suc more) le =
     let rest = asked_few values after leaf (n + 1) more (omega arith) in
     omega (arith, length-append here (all_bits values after (asked leaf (n + 1) more)), few, rest)
 
-zero_few : (known : Option ℕ) (values : ℕ → ℕ) (tree : Tree) (leaf planes : ℕ) → planes ≤ 13 → length (zero_bits known values tree leaf planes) ≤ 442
+zero_few : (known : Option ℕ) (values : ℕ → ℕ) (tree : Tree) (leaf planes : ℕ) → planes ≤ 13 → length (zero_bits known values tree leaf planes) ≤ 468
 zero_few None values tree leaf planes le = let a = asked_few values tree leaf 0 (min planes (values leaf + 1)) (omega arith) in omega (arith, a, le)
 zero_few (Some z) values tree leaf planes le = omega arith
 
-first_few : (known : Option ℕ) (values : ℕ → ℕ) (tree : Tree) (leaf layer : ℕ) (included : Bool) → layer < 12 → length (first_bits known values tree leaf layer included) ≤ 33
+first_few : (known : Option ℕ) (values : ℕ → ℕ) (tree : Tree) (leaf layer : ℕ) (included : Bool) → layer < 12 → length (first_bits known values tree leaf layer included) ≤ 35
 first_few None values tree leaf layer included lt = omega (arith, query_few values tree leaf (layer + 1), lt)
 first_few (Some z) values tree leaf layer included lt = omega arith
 
@@ -137,14 +137,14 @@ told_few lblock most e le low =
     omega (arith, length-append w (r ++ l), length-append r l, word_few e.passes, raise_long e.raise, lengths_few (lblock + e.raise) e.parts (omega (arith, low.raise, le)), low.parts, low.raise, le)
 
 entry_few : (v : Values) (layer leaf most : ℕ) (cells : Cells) (e : Entry) → layer < 12 → cells.planes ≤ 13 → (block_at cells leaf).lblock ≤ 400 → IsLow most e
-    → length (entry_bits v layer leaf cells e) ≤ 524 + 463 * most
+    → length (entry_bits v layer leaf cells e) ≤ 552 + 463 * most
 entry_few v layer leaf most cells e lt planes le low =
     let known : Option ℕ = (block_at cells leaf).zero in
     let first : List Bool = first_bits known v.first cells.first leaf layer (contributes e) in
     let zeros : List Bool = zero_bits known v.zeros cells.zeros leaf cells.planes in
     let told : List Bool = told_bits (block_at cells leaf).lblock e in
-    let both : length (zeros ++ told) ≤ 491 + 463 * most = omega (arith, length-append zeros told, zero_few known v.zeros cells.zeros leaf cells.planes planes, told_few (block_at cells leaf).lblock most e le low) in
-    let rest : length (if contributes e then zeros ++ told else []) ≤ 491 + 463 * most = either (contributes e) (zeros ++ told) (491 + 463 * most) both in
+    let both : length (zeros ++ told) ≤ 517 + 463 * most = omega (arith, length-append zeros told, zero_few known v.zeros cells.zeros leaf cells.planes planes, told_few (block_at cells leaf).lblock most e le low) in
+    let rest : length (if contributes e then zeros ++ told else []) ≤ 517 + 463 * most = either (contributes e) (zeros ++ told) (517 + 463 * most) both in
     omega (arith, length-append first (if contributes e then zeros ++ told else []), first_few known v.first cells.first leaf layer (contributes e) lt, rest)
   where
     either : (b : Bool) (bits : List Bool) (n : ℕ) → length bits ≤ n → length (if b then bits else []) ≤ n
@@ -277,7 +277,7 @@ bytes_long (suc fuel) before (bit ∷ bits) =
     seven false = omega arith
 
 -- ---- where a layer has so many parts of each block at most
-module _ (share each : ℕ) (enough : 524 + 463 * share ≤ each) where
+module _ (share each : ℕ) (enough : 552 + 463 * share ≤ each) where
   blocks_few : (v : Values) (layer leaf : ℕ) (cells : Cells) (es : List Entry) → layer < 12 → cells.planes ≤ 13 → AreLow share es → ((i : ℕ) → leaf ≤ i → (block_at cells i).lblock ≤ 400)
       → length (blocks_bits v layer leaf cells es) ≤ each * length es
   blocks_few v layer leaf cells [] lt planes low from = omega arith

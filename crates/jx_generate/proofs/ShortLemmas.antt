@@ -1,4 +1,4 @@
--- A made file has at most 2^28 bytes: 216 packets, of which each has at most 3,072 code-blocks with at most 143 bytes of header and 92 coded
+-- A made file has at most 2^28 bytes: 216 packets, of which each has at most 3,072 code-blocks with at most 146 bytes of header and 92 coded
 -- bytes for each.
 use Rattle.std.proofs.Common.{◌≡◌, ◌∙◌, ℕ, zero, suc, ◌+◌, ◌-◌, ◌*◌, ◌^◌, ◌≤◌, ◌<◌, List, [], ◌∷◌, ◌++◌, length, map, refl, sym, ap, subst, arith, inl, inr}
 use Rattle.std.specs.List.{AllByRecursion, flat_map, range_with_len}
@@ -191,10 +191,10 @@ leaves_count : (seed w h c r : ℕ) → length (leaves_made seed w h c r) ≡ le
 unfolding leaves_made
 leaves_count seed w h c r = length-map-range_with_len (leaf_made seed w h c r) 0 (leaves (geometry_made w h) c r 0)
 
-header_short : (seed w h c r layer : ℕ) → layer < 12 → length (header_made seed w h c r layer) ≤ 143 * length (leaves_made seed w h c r) + 2
+header_short : (seed w h c r layer : ℕ) → layer < 12 → length (header_made seed w h c r layer) ≤ 146 * length (leaves_made seed w h c r) + 2
 unfolding header_made
 header_short seed w h c r layer lt =
-    let few = header_few 1 1000 (omega arith) 12 0 (bands_made w h c r) (leaves_made seed w h c r) layer lt (bands_13 w h c r) (leaves_one seed w h c r) in omega (arith, few)
+    let few = header_few 1 1022 (omega arith) 12 0 (bands_made w h c r) (leaves_made seed w h c r) layer lt (bands_13 w h c r) (leaves_one seed w h c r) in omega (arith, few)
 
 data_short : (seed w h c r layer : ℕ) → length (data_made seed w h c r layer) ≤ leaves (geometry_made w h) c r 0 * 92
 unfolding data_made

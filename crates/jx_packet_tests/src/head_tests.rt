@@ -6,7 +6,7 @@ ghost use Rattle.jx_packet_header.specs.LeavesFit.{LeavesInRange};
 ghost use Rattle.jx_packet_header.specs.Writable.{AllFew, all_passes};
 
 use crate::checks::{check, equal};
-use jx_base::{Style, ends_segment, is_raw};
+use jx_base::{MOST_BLOCKS, Style, ends_segment, is_raw};
 use jx_packet_header::{BandCells, HeaderPart, Leaf, LeafPart, Precinct, PrecinctOut};
 use std::alloc::{AllocError, Global};
 use std::process::Abort;
@@ -41,7 +41,7 @@ fn few_passes(parts: &[LeafPart]) -> bool
 fn in_range(bands: &[BandCells]) -> bool
     ensures { IsTrue result → CellsInRange bands.now }
 {
-    let mut left: u64 = 1 << 20;
+    let mut left = MOST_BLOCKS;
     for cells in bands {
         let count = u64::from(cells.wide) * u64::from(cells.high);
         if (cells.wide == 0) != (cells.high == 0) || cells.planes > 255 || count > left {

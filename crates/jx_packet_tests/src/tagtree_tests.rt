@@ -3,7 +3,7 @@ ghost use Rattle.std.specs.Prelude.{◌≡◌, ◌*◌, ◌<◌, IsTrue, length}
 ghost use Rattle.jx_tagtree.specs.Shape.{IsShape};
 
 use crate::checks::{check, equal};
-use jx_base::NoMemory;
+use jx_base::{MOST_BLOCKS, NoMemory};
 use jx_tagtree::{BitFault, BitReader, BitWriter, TagReader, TagWriter};
 use std::alloc::Global;
 use std::process::Abort;
@@ -116,7 +116,7 @@ fn is_shape(wide: u32, high: u32, leaves: &[u32]) -> bool
     ensures { IsTrue result → IsShape wide high × length leaves.now ≡ wide * high }
 {
     let count = u64::from(wide) * u64::from(high);
-    count > 0 && count <= 1 << 20 && leaves.len() as u64 == count
+    count > 0 && count <= MOST_BLOCKS && leaves.len() as u64 == count
 }
 
 /// Writes queries of some leaves, and reads them back.

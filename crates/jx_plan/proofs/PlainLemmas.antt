@@ -102,13 +102,13 @@ informs a (s ∷ ss) = informs_next a s ss (informs a ss)
 not_passed : (n : ℕ) → n ≤ 2 ^ 22 → passed 6 n (nat_lt (2 ^ 22) n) ≡ None
 not_passed n h = grind (arith, nat_tests)
 
-both_pass : (m k n : ℕ) → m ≡ k → passed 5 k (nat_lt (most_blocks) k) ≡ None → n ≤ 2 ^ 22
-    → option_or (passed 5 m (nat_lt (most_blocks) m)) (passed 6 n (nat_lt (2 ^ 22) n)) ≡ None
+both_pass : (m k n : ℕ) → m ≡ k → passed 5 k (nat_lt most_blocks k) ≡ None → n ≤ 2 ^ 22
+    → option_or (passed 5 m (nat_lt most_blocks m)) (passed 6 n (nat_lt (2 ^ 22) n)) ≡ None
 both_pass m k n e h le = rw (e, h, not_passed n le) refl
 
-pub blocks_pass : (s : Stream) → totals_fault s ≡ None → passed 5 (block_total s) (nat_lt (most_blocks) (block_total s)) ≡ None
+pub blocks_pass : (s : Stream) → totals_fault s ≡ None → passed 5 (block_total s) (nat_lt most_blocks (block_total s)) ≡ None
 unfolding totals_fault
-blocks_pass s h = first_none (passed 5 (block_total s) (nat_lt (most_blocks) (block_total s))) (passed 6 (packet_total s) (nat_lt (2 ^ 22) (packet_total s))) h
+blocks_pass s h = first_none (passed 5 (block_total s) (nat_lt most_blocks (block_total s))) (passed 6 (packet_total s) (nat_lt (2 ^ 22) (packet_total s))) h
 
 totals_from : (s w : Stream) → block_total w ≡ block_total s → totals_fault s ≡ None → packet_total w ≤ 2 ^ 22 → totals_fault w ≡ None
 unfolding totals_fault

@@ -74,7 +74,7 @@ not_passed : (found most : ℕ) → passed 5 found (nat_lt most found) ≡ None 
 not_passed found most h = grind (arith, nat_tests)
 
 pub few_blocks : (s : Stream) (blocks : List Block) → MayBePlanned s blocks → length blocks ≤ most_blocks
-few_blocks s blocks may = omega (arith, may.blocks_are.all, not_passed (block_total s) (most_blocks) (blocks_pass s may.totals))
+few_blocks s blocks may = omega (arith, may.blocks_are.all, not_passed (block_total s) most_blocks (blocks_pass s may.totals))
 
 -- it keeps its causal bit within planes
 pub whole_at : (style : Option Style) (blocks : List Block) (n : ℕ) (b : Block) → first_broken style blocks ≡ None → slice_get blocks n ≡ Some b → n < length blocks → breaks_plane style b ≡ false

@@ -19,6 +19,7 @@ use Rattle.jx_plan.specs.Plan.{IsPlan, Plan}
 use Rattle.jx_plan.specs.TileJobs.{AreJobsBelow, AreTileJobs}
 use Rattle.jx_plan.proofs.BlockLemmas.{blocks_are}
 use Rattle.jx_plan.proofs.PlanLemmas.{few_blocks}
+use Rattle.jx_base.specs.Limits.{most_blocks}
 
 abbrev before_tile : Stream → ℕ → ℕ
 before_tile s t = blocks_below (canvas_of s.siz) (shapes_of s) t
@@ -114,5 +115,5 @@ tile_count s tile own first end same from to =
     omega (arith, from, to, next, there)
 
 -- ---- how many there are at most
-pub few_below : (p : Plan) (tile : ℕ) → IsPlan p → tile ≤ tile_number p.stream.siz → blocks_below (canvas_of p.stream.siz) (shapes_of p.stream) tile ≤ 1048576
+pub few_below : (p : Plan) (tile : ℕ) → IsPlan p → tile ≤ tile_number p.stream.siz → blocks_below (canvas_of p.stream.siz) (shapes_of p.stream) tile ≤ most_blocks
 few_below p tile plan inside = omega (arith, (jobs_below p tile plan inside).inside, plan.all, few_blocks p.stream p.blocks plan.may)

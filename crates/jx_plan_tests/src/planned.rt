@@ -9,7 +9,7 @@ ghost use Rattle.jx_plan.specs.Plan.{MayBePlanned};
 ghost use Rattle.jx_options.specs.Wanted.{MayBeStyle, MayBeWanted};
 
 use crate::hex::bytes_of;
-use jx_base::{Block, NoMemory, Style};
+use jx_base::{Block, MOST_BYTES, NoMemory, Style};
 use jx_codeblock::Job;
 use jx_codestream::{Stream, Tile, read_stream};
 use jx_layers::{CutLayers, KeepLayers, LayerPlanner, OneLayer, TableLayers};
@@ -158,7 +158,7 @@ pub(crate) fn planners(
 pub(crate) fn input<'a>(alloc: Global, file: &'a [u8]) -> Option<(Stream, Vec<Block<'a>>)>
     ensures { IfSome result (λ r. MayBePlanned r.0 r.1.items) }
 {
-    if file.len() > 1 << 28 {
+    if file.len() > MOST_BYTES {
         return None;
     }
     let Ok(stream) = read_stream(alloc, file) else {

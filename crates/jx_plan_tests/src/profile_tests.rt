@@ -2,6 +2,7 @@
 
 use crate::checks::equal;
 use crate::hex::bytes_of;
+use jx_base::MOST_BYTES;
 use jx_codestream::laws::read_is_in_range;
 use jx_codestream::read_stream;
 use jx_options::{Marks, PartChoice};
@@ -29,7 +30,7 @@ fn changed(alloc: Global, change: (usize, u8)) -> Option<Vec<u8>> {
 fn unmet(alloc: Global, change: (usize, u8), parts: PartChoice, tlm: bool) -> Option<u32> {
     read_is_in_range();
     let bytes = changed(alloc, change)?;
-    if bytes.len() > 1 << 28 {
+    if bytes.len() > MOST_BYTES {
         return Some(99);
     }
     let mut marks = Marks::none();

@@ -121,8 +121,8 @@ module _ (d : ℕ) (s : Stream) (clear : IsClear d s) (stand : HeadersStand s) w
   pub totals_left : totals_fault s ≡ None → totals_fault (stream_left d s) ≡ None
   unfolding totals_fault
   totals_left h =
-      let both = neither (passed 5 (block_total s) (nat_lt (most_blocks) (block_total s))) (passed 6 (packet_total s) (nat_lt (2 ^ 22) (packet_total s))) h in
-      let few : block_total s ≤ most_blocks = not_passed 5 (block_total s) (most_blocks) both.0 in
+      let both = neither (passed 5 (block_total s) (nat_lt most_blocks (block_total s))) (passed 6 (packet_total s) (nat_lt (2 ^ 22) (packet_total s))) h in
+      let few : block_total s ≤ most_blocks = not_passed 5 (block_total s) most_blocks both.0 in
       let less : packet_total s ≤ 2 ^ 22 = not_passed 6 (packet_total s) (2 ^ 22) both.1 in
-      both_none (passed 5 (block_total (stream_left d s)) (nat_lt (most_blocks) (block_total (stream_left d s)))) (passed 6 (packet_total (stream_left d s)) (nat_lt (2 ^ 22) (packet_total (stream_left d s))))
-      (within 5 (block_total (stream_left d s)) (most_blocks) (omega (arith, blocks_less, few))) (within 6 (packet_total (stream_left d s)) (2 ^ 22) (omega (arith, packets_less, less)))
+      both_none (passed 5 (block_total (stream_left d s)) (nat_lt most_blocks (block_total (stream_left d s)))) (passed 6 (packet_total (stream_left d s)) (nat_lt (2 ^ 22) (packet_total (stream_left d s))))
+      (within 5 (block_total (stream_left d s)) most_blocks (omega (arith, blocks_less, few))) (within 6 (packet_total (stream_left d s)) (2 ^ 22) (omega (arith, packets_less, less)))

@@ -143,7 +143,7 @@ first_none (Some f) later h = absurd (cc)
 totals_few : (s : Stream) → totals_fault s ≡ None → block_total s ≤ most_blocks
 unfolding totals_fault
 totals_few s h =
-    not_passed 5 (block_total s) (most_blocks) (first_none (passed 5 (block_total s) (nat_lt (most_blocks) (block_total s))) (passed 6 (packet_total s) (nat_lt (2 ^ 22) (packet_total s))) h)
+    not_passed 5 (block_total s) most_blocks (first_none (passed 5 (block_total s) (nat_lt most_blocks (block_total s))) (passed 6 (packet_total s) (nat_lt (2 ^ 22) (packet_total s))) h)
 
 pub block_few : (p : Plan) (t : ℕ) → IsPlan p → t < tile_number p.stream.siz → first_block p t + blocks_in p t ≤ most_blocks
 block_few p t plan inside =

@@ -13,7 +13,7 @@ ghost use Rattle.jx_options.specs.Work.{MayBeWork};
 ghost use Rattle.jx_rounds.specs.MadeRounds.{AreMadeAlone, AreUnshared, IsTapeFrom};
 ghost use Rattle.jx_base.specs.Limits.{most_blocks, most_bytes};
 
-use jx_base::{NoMemory, Piece};
+use jx_base::{MOST_BYTES, NoMemory, Piece};
 use jx_codeblock::{BlockFault, Job, Recoded, recode};
 use jx_io::Gate;
 use jx_options::Work;
@@ -23,9 +23,6 @@ use jx_workers::{Tape, recode_all};
 use std::alloc::Global;
 use std::sync::Wait;
 use std::thread::Threads;
-
-/// The most bytes that the pieces of the blocks of a round may have together where workers make them.
-const MOST_BYTES: usize = 268_435_456;
 
 /// What workers are made with: the threads' and waiting's handle, the gate that is told of each block that is coded anew, and how many
 /// there are, inside which windows.

@@ -103,7 +103,7 @@ lies_from p b h =
 -- ---- a block at its number
 few_blocks : (s : Stream) → totals_fault s ≡ None → block_total s ≤ most_blocks
 unfolding totals_fault
-few_blocks s none = not_passed 5 (block_total s) (most_blocks) (none_first (passed 5 (block_total s) (nat_lt (most_blocks) (block_total s))) (passed 6 (packet_total s) (nat_lt (2 ^ 22) (packet_total s))) none)
+few_blocks s none = not_passed 5 (block_total s) most_blocks (none_first (passed 5 (block_total s) (nat_lt most_blocks (block_total s))) (passed 6 (packet_total s) (nat_lt (2 ^ 22) (packet_total s))) none)
 
 abbrev pub number_of : Stream → BlockName → ℕ
 number_of s n = block_number (canvas_of s.siz) (shapes_of s) n

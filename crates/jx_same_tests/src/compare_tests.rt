@@ -5,7 +5,7 @@ ghost use Rattle.jx_plan.specs.Plan.{MayBePlanned};
 
 use crate::checks::equal_at;
 use crate::hex::bytes_of;
-use jx_base::{Band, Block};
+use jx_base::{Band, Block, MOST_BYTES};
 use jx_codestream::{Stream, read_stream};
 use jx_same::{Answer, Field, Spot, compare};
 use jx_tier2_reader::gather;
@@ -260,7 +260,7 @@ fn file_of(alloc: Global, parts: &Parts) -> Option<Vec<u8>> {
 fn input<'a>(alloc: Global, file: &'a [u8]) -> Option<(Stream, Vec<Block<'a>>)>
     ensures { IfSome result (λ r. MayBePlanned r.0 r.1.items) }
 {
-    if file.len() > 1 << 28 {
+    if file.len() > MOST_BYTES {
         return None;
     }
     let Ok(stream) = read_stream(alloc, file) else {

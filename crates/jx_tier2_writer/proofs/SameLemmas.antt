@@ -88,8 +88,8 @@ module _ (s : Stream) (main : List Segment) (tiles : List Tile) (same : AreAlike
   pub totals_same : totals_fault it ≡ totals_fault s
   unfolding totals_fault
   totals_same =
-      ap (λ (n : ℕ). option_or (passed 5 n (nat_lt (most_blocks) n)) (passed 6 (packet_total it) (nat_lt (2 ^ 22) (packet_total it)))) blocks_total_same
-      ∙ ap (λ (n : ℕ). option_or (passed 5 (block_total s) (nat_lt (most_blocks) (block_total s))) (passed 6 n (nat_lt (2 ^ 22) n))) packets_total_same
+      ap (λ (n : ℕ). option_or (passed 5 n (nat_lt most_blocks n)) (passed 6 (packet_total it) (nat_lt (2 ^ 22) (packet_total it)))) blocks_total_same
+      ∙ ap (λ (n : ℕ). option_or (passed 5 (block_total s) (nat_lt most_blocks (block_total s))) (passed 6 n (nat_lt (2 ^ 22) n))) packets_total_same
 
   -- ---- blocks
   same_rect : (n : BlockName) → rect_in s n ≡ rect_in it n
