@@ -1,7 +1,7 @@
 //! One coding pass after another, decoded and coded in step.
 
 ghost use Rattle.std.specs.Prelude.{◌≡◌, ◌+◌, ◌*◌, ◌++◌, ◌∷◌, [], ◌/◌, ◌%◌, ◌^◌, ◌==◌, ◌&&◌, ◌||◌, ◌<◌, ◌≤◌, ℕ, length, map, drop, OnOk, IfOk};
-ghost use Rattle.jx_base.specs.Passes.{raw_pass, is_causal, has_symbols};
+ghost use Rattle.jx_base.specs.Passes.{raw_pass, end_pass, is_causal, has_symbols};
 ghost use Rattle.jx_tier1_specs.specs.Asking.{told};
 ghost use Rattle.jx_tier1_specs.specs.Cells.{Cells};
 ghost use Rattle.jx_tier1_specs.specs.Pass.{IsScan, plane_of, scanned};
@@ -62,6 +62,13 @@ fn has_symbol(style: Style, pass: u16) -> bool
     ensures { result ≡ ends_by_symbol style.bits pass }
 {
     style.segmentation() && pass % 3 == 0
+}
+
+/// Whether a segment ends with a pass, which may be the block's last.
+fn is_end(style: Style, pass: u16, last: bool) -> bool
+    ensures { result ≡ (end_pass style.bits pass || last) }
+{
+    ends_segment(style, pass) || last
 }
 
 impl<'a> Recoder<'a> {
@@ -198,10 +205,11 @@ impl<'a> Recoder<'a> {
         ensures rest { OnOk result (self.new.rest ≡ self.old.rest) }
     {
         self.note()?;
-        if !last && !ends_segment(style, pass) {
+        if !is_end(style, pass, last) {
             return Ok(());
         }
-        self.end(alloc, style, pass)
+        self.end(alloc, style, pass)?;
+        Ok(())
     }
 
     /// The next pass of the block, which may be the last.
