@@ -6,3 +6,6 @@ parts_by_ends-requires-clause-few c = few_before _ c.in_ok-segments.segments c.i
 
 pub parts_by_looks-requires-clause-few : goal.parts_by_looks-requires-clause-few
 parts_by_looks-requires-clause-few c = few_before _ c.in_ok-segments.segments c.in_ok-segments.ensures c.requires.few
+
+pub parts_learnt-requires-clause-few : goal.parts_learnt-requires-clause-few
+parts_learnt-requires-clause-few c = few_before _ c.in_ok-segments.segments c.in_ok-segments.ensures c.requires.few
