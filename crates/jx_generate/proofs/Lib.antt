@@ -10,8 +10,8 @@ mod ReadLemmas
 mod OrderLemmas
 mod OneLayer
 mod FillLemmas
-pub mod WrittenLemmas
+mod WrittenLemmas
 mod WellLemmas
-pub mod HeaderBits
-pub mod ShortLemmas
+mod HeaderBits
+mod ShortLemmas
 mod PlainLemmas

@@ -1,6 +1,6 @@
 pub mod Passes
--- Inner: no other crate cites these.
 pub mod Claims
+-- Inner: no other crate cites these.
 pub mod Rule
 pub mod Told
 pub mod Closing

@@ -1,6 +1,6 @@
 pub mod Items
-pub mod Within
 -- Inner: no other crate cites these.
+pub mod Within
 pub mod Sides
 pub mod Lists
 pub mod Shared
