@@ -4,8 +4,8 @@ pub mod Recoded
 pub mod Laws
 pub mod Written
 pub mod FirstLayers
-pub mod Segments
 -- Inner: no other crate cites these.
+pub mod Segments
 pub mod Tables
 pub mod Groups
 pub mod Starts

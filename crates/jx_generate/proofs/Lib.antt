@@ -10,8 +10,8 @@ mod ReadLemmas
 mod OrderLemmas
 mod OneLayer
 mod FillLemmas
-mod WrittenLemmas
+pub mod WrittenLemmas
 mod WellLemmas
-mod HeaderBits
-mod ShortLemmas
+pub mod HeaderBits
+pub mod ShortLemmas
 mod PlainLemmas

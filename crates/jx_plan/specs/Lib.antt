@@ -8,8 +8,8 @@ pub mod Plan
 pub mod Meaning
 pub mod Causes
 pub mod Planned
--- Inner: no other crate cites these.
 pub mod Questions
+-- Inner: no other crate cites these.
 pub mod ReadBack
 pub mod TileJobs
 pub mod Steps

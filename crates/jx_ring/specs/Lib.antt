@@ -1,6 +1,6 @@
 pub mod Passes
-pub mod Claims
 -- Inner: no other crate cites these.
+pub mod Claims
 pub mod Rule
 pub mod Told
 pub mod Closing

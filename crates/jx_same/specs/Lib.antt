@@ -1,6 +1,6 @@
 pub mod Items
--- Inner: no other crate cites these.
 pub mod Within
+-- Inner: no other crate cites these.
 pub mod Sides
 pub mod Lists
 pub mod Shared

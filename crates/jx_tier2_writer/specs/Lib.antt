@@ -4,8 +4,8 @@ pub mod TileParts
 pub mod Ready
 pub mod Tile
 pub mod Kept
--- Inner: no other crate cites these.
 pub mod Lengths
+-- Inner: no other crate cites these.
 pub mod Coded
 pub mod Leaves
 pub mod Names
