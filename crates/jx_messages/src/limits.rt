@@ -20,7 +20,7 @@ fn bound(what: &'static str, most: u128, advice: &'static str) -> LimitText
 }
 
 /// A limit in words, 1 or 3 to 7, by what was found; there is no limit 2.
-#[tactic(auto, unfolding(crate::specs::Limits::limit_words))]
+#[tactic(auto, unfolding(crate::specs::Limits::limit_words, crate::specs::Limits::limit_row))]
 pub(crate) fn limit_text(number: u8, found: u128) -> LimitText
     ensures { limit_row result.what.now result.most result.advice.now ≡ limit_words number found }
 {
