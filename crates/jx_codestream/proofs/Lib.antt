@@ -21,5 +21,6 @@ pub mod BareLemmas
 mod CodingLemmas
 mod NamedLemmas
 mod ViewLemmas
+mod PutLemmas
 pub mod KindLemmas
 mod BandLemmas

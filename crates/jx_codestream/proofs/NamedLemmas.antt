@@ -16,15 +16,15 @@ use Rattle.jx_codestream.specs.Index.{comp_named, has_default, has_named, is_com
 use Rattle.jx_codestream.specs.Params.{band_planes, has_too_few, header_has_too_few, header_planes, quant_of, shape_of, shift_of}
 
 -- a segment of another slot
-other_slot : (s : Segment) (comp k n : ℕ) → is_default s ≡ false → is_comp comp (comp_named s) ≡ false → (4 < k) → (k < 8) → n ≡ k + 3 * comp → (slot_of s == n) ≡ false
-other_slot (segment.Cod cod) comp k n h i low high e = absurd (cc)
-other_slot (segment.Qcd quant) comp k n h i low high e = absurd (cc)
-other_slot (segment.Coc c shape) comp k n h i low high e = grind (arith, nat_tests)
-other_slot (segment.Qcc c quant) comp k n h i low high e = grind (arith, nat_tests)
-other_slot (segment.Rgn c shift) comp k n h i low high e = grind (arith, nat_tests)
-other_slot (segment.Poc entries) comp k n h i low high e = grind (arith, nat_tests)
-other_slot (segment.Crg bytes) comp k n h i low high e = grind (arith, nat_tests)
-other_slot _ comp k n h i low high e = grind (arith, nat_tests)
+other_slot : (s : Segment) (comp k n : ℕ) → is_comp comp (comp_named s) ≡ false → (4 < k) → (k < 8) → n ≡ k + 3 * comp → (slot_of s == n) ≡ false
+other_slot (segment.Cod cod) comp k n i low high e = grind (arith, nat_tests)
+other_slot (segment.Qcd quant) comp k n i low high e = grind (arith, nat_tests)
+other_slot (segment.Coc c shape) comp k n i low high e = grind (arith, nat_tests)
+other_slot (segment.Qcc c quant) comp k n i low high e = grind (arith, nat_tests)
+other_slot (segment.Rgn c shift) comp k n i low high e = grind (arith, nat_tests)
+other_slot (segment.Poc entries) comp k n i low high e = grind (arith, nat_tests)
+other_slot (segment.Crg bytes) comp k n i low high e = grind (arith, nat_tests)
+other_slot _ comp k n i low high e = grind (arith, nat_tests)
 
 not_cod : (s : Segment) → is_default s ≡ false → (slot_of s == 1) ≡ false
 not_cod (segment.Cod cod) h = absurd (cc)
@@ -48,22 +48,21 @@ no_default n (s ∷ ss) apart none =
     let both = or_parts (is_default s) (list_any is_default ss) none in
     rw (apart s both.0) (no_default n ss apart both.1)
 
-no_own : (comp k : ℕ) (ss : List Segment) → 4 < k → k < 8 → has_default ss ≡ false → has_named comp ss ≡ false → in_slot (k + 3 * comp) ss ≡ None
-no_own comp k [] low high none unnamed = refl
-no_own comp k (s ∷ ss) low high none unnamed =
-    let both = or_parts (is_default s) (list_any is_default ss) none in
+pub no_own : (comp k : ℕ) (ss : List Segment) → 4 < k → k < 8 → has_named comp ss ≡ false → in_slot (k + 3 * comp) ss ≡ None
+no_own comp k [] low high unnamed = refl
+no_own comp k (s ∷ ss) low high unnamed =
     let named = or_parts (is_comp comp (comp_named s)) (has_named comp ss) unnamed in
-    rw (other_slot s comp k (k + 3 * comp) both.0 named.0 low high refl) (no_own comp k ss low high both.1 named.1)
+    rw (other_slot s comp k (k + 3 * comp) named.0 low high refl) (no_own comp k ss low high named.1)
 
 module _ (own main : List Segment) (comp : ℕ) (none : has_default own ≡ false) (unnamed : has_named comp own ≡ false) where
   spared_shape : shape_of own main comp ≡ shape_of [] main comp
-  spared_shape = rw (no_own comp 5 own (omega arith) (omega arith) none unnamed, no_default 1 own not_cod none) refl
+  spared_shape = rw (no_own comp 5 own (omega arith) (omega arith) unnamed, no_default 1 own not_cod none) refl
 
   spared_quant : quant_of own main comp ≡ quant_of [] main comp
-  spared_quant = rw (no_own comp 6 own (omega arith) (omega arith) none unnamed, no_default 2 own not_qcd none) refl
+  spared_quant = rw (no_own comp 6 own (omega arith) (omega arith) unnamed, no_default 2 own not_qcd none) refl
 
   spared_shift : shift_of own main comp ≡ shift_of [] main comp
-  spared_shift = rw (no_own comp 7 own (omega arith) (omega arith) none unnamed) refl
+  spared_shift = rw (no_own comp 7 own (omega arith) (omega arith) unnamed) refl
 
 -- where one test fails or is that of the other, none holds
 any_alike : (f g : ℕ → Bool) (xs : List ℕ) → ((x : ℕ) → (f x ≡ false) ⊎ (f x ≡ g x)) → list_any g xs ≡ false → list_any f xs ≡ false

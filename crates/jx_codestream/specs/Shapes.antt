@@ -1,15 +1,18 @@
 -- The tiles of a stream as geometry (T.800, A.5, A.6 and B.3).
-use Rattle.std.specs.Prelude.{ℕ, List, [], length, map, slice_index_or}
+use Rattle.std.specs.Prelude.{◌≡◌, ◌<◌, ℕ, false, List, [], length, map, slice_index_or}
 use Rattle.std.specs.List.{range_with_len}
 use Rattle.jx_marker.specs.declared.CompSize.{CompSize}
+use Rattle.jx_marker.specs.declared.Segment.{Segment}
+use Rattle.jx_marker.specs.declared.Shape.{Shape}
 use Rattle.jx_marker.specs.declared.Siz.{Siz}
 use Rattle.jx_geom.specs.declared.shape.CompShape.{CompShape}
-use Rattle.jx_geom.specs.Geometry.{Geometry}
+use Rattle.jx_geom.specs.Geometry.{Geometry, no_shape}
 use Rattle.jx_codestream.specs.declared.Tile.{Tile}
 use Rattle.jx_codestream.specs.declared.Stream.{Stream}
 use Rattle.jx_codestream.specs.declared.Params.{Params}
 use Rattle.jx_codestream.specs.TileHeaders.{TileHeaders}
-use Rattle.jx_codestream.specs.Params.{params_in, headers_at}
+use Rattle.jx_codestream.specs.Index.{has_named}
+use Rattle.jx_codestream.specs.Params.{params_in, headers_at, precincts_of}
 use Rattle.jx_codestream.specs.First.{canvas_of}
 
 -- a component that isn't there
@@ -22,6 +25,14 @@ size_in siz c = slice_index_or siz.comps c no_size
 abbrev pub shape_from : CompSize → Params → CompShape
 shape_from size p = record { dx = size.dx; dy = size.dy; levels = p.levels; xcb = p.xcb; ycb = p.ycb; precincts = p.precincts }
 
+-- a component of this size that is divided as a COD or COC says
+abbrev pub divided : CompSize → Shape → CompShape
+divided size shape = record { dx = size.dx; dy = size.dy; levels = shape.levels; xcb = shape.xcb; ycb = shape.ycb; precincts = precincts_of shape.precincts }
+
+-- a component of a picture that is divided as another one
+abbrev pub sized : Siz → CompShape → ℕ → CompShape
+sized siz shape c = record shape { dx = (size_in siz c).dx; dy = (size_in siz c).dy }
+
 -- the shape of a component, by these headers
 abbrev pub comp_shape : TileHeaders → ℕ → CompShape
 comp_shape h c = shape_from (size_in h.siz c) (params_in h c)
@@ -29,6 +40,11 @@ comp_shape h c = shape_from (size_in h.siz c) (params_in h c)
 -- the shapes of all components
 unfoldable pub shapes_in : TileHeaders → List CompShape
 shapes_in h = map (comp_shape h) (range_with_len 0 (length h.siz.comps))
+
+-- a list has the shapes of all components but those that some segments, left to be looked at, name
+pub record HasShapes (h : TileHeaders) (left : List Segment) (list : List CompShape) : Type 0 where
+  pub size : length list ≡ length h.siz.comps
+  pub each : (comp : ℕ) → comp < length h.siz.comps → has_named comp left ≡ false → slice_index_or list comp no_shape ≡ comp_shape h comp
 
 -- the layers, and the style of a component's code-blocks (A.6.1)
 abbrev pub layers_in : TileHeaders → ℕ

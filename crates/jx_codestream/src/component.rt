@@ -11,7 +11,7 @@ use crate::steps::{exponent_of, mantissa_of, planes_of};
 use jx_base::{Band, Style};
 
 /// The exponents of each resolution's precincts, 15 and 15 where no bytes are there.
-fn precincts_of(bytes: &[u8]) -> [u8; 33]
+pub fn precincts_of(bytes: &[u8]) -> [u8; 33]
     ensures { result ≡ precincts_of bytes.now }
 {
     let mut precincts = [255u8; 33];

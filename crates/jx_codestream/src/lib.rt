@@ -12,6 +12,7 @@ mod parts;
 mod precedence;
 mod queries;
 mod reading;
+mod shapes;
 mod slots;
 mod steps;
 mod tiles;
@@ -23,7 +24,8 @@ use jx_base::Style;
 use jx_marker::Siz;
 pub use lists::{Bodies, Entries, Segments, Tiles};
 pub use reading::read_stream;
-pub use view::{MainView, TileView, comps_of};
+pub use shapes::comps_of;
+pub use view::{MainView, TileView};
 
 /// The data of one tile-part: where it stands in the file.
 #[derive(Clone, Copy, Debug, PartialEq, Eq)]

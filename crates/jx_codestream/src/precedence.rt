@@ -4,7 +4,7 @@
 ghost use Rattle.std.specs.Prelude.{◌≡◌, ◌+◌, ◌*◌, MatchOption, Some, None, true};
 ghost use Rattle.std.specs.Option.{option_or};
 ghost use Rattle.jx_codestream.specs.Index.{gives};
-ghost use Rattle.jx_codestream.specs.Params.{chosen, cod_of, quant_of, shape_of, shift_in, shift_of};
+ghost use Rattle.jx_codestream.specs.Params.{chosen, cod_of, quant_of, shape_in, shape_of, shift_in, shift_of};
 ghost use Rattle.jx_codestream.specs.Tiles.{in_slot};
 
 use crate::index::Index;
@@ -49,8 +49,18 @@ pub fn shape_of<'a>(tile: &'a Index<'a>, main: &'a Index<'a>, comp: u16) -> Opti
     ensures { MatchOption result (shape_of tile.now.segments.now main.now.segments.now comp ≡ None) (λ shape. shape_of tile.now.segments.now main.now.segments.now comp ≡ Some shape.now) }
 {
     match chosen(tile, main, slots::coc(comp), slots::COD) {
-        Some(Segment::Cod(cod)) => Some(&cod.shape),
-        Some(Segment::Coc { shape, .. }) => Some(shape),
+        Some(segment) => shape_in(segment),
+        None => None,
+    }
+}
+
+/// How a COD or COC says that components are divided.
+pub fn shape_in(segment: &Segment) -> Option<&Shape>
+    ensures { MatchOption result (shape_in (Some segment.now) ≡ None) (λ shape. shape_in (Some segment.now) ≡ Some shape.now) }
+{
+    match segment {
+        Segment::Cod(cod) => Some(&cod.shape),
+        Segment::Coc { shape, .. } => Some(shape),
         _ => None,
     }
 }

@@ -1,22 +1,24 @@
 //! What the headers say of a tile, each answer in constant time.
 
-ghost use Rattle.std.specs.Prelude.{◌≡◌, ◌≤◌, ◌<◌, length, IfOk, []};
+ghost use Rattle.std.specs.Prelude.{◌≡◌, ◌≤◌, ◌<◌, ◌∷◌, List, length, IfOk, []};
 ghost use Rattle.jx_geom.specs.Geometry.{ShapesInRange};
 ghost use Rattle.jx_geom.specs.Ranges.{CanvasInRange, HasBand, ShapeInRange};
+ghost use Rattle.jx_marker.specs.declared.Segment.{Segment};
 ghost use Rattle.jx_codestream.specs.First.{canvas_of, tile_number};
 ghost use Rattle.jx_codestream.specs.InRange.{HeadersInRange, StreamInRange};
-ghost use Rattle.jx_codestream.specs.Params.{headers_at, params_by, params_in, planes_in, step_in};
-ghost use Rattle.jx_codestream.specs.Shapes.{comp_shape, layers_in, layers_of, shapes_in, size_in, style_in};
+ghost use Rattle.jx_codestream.specs.Params.{headers_at, params_in, planes_in, step_in};
+ghost use Rattle.jx_codestream.specs.Shapes.{HasShapes, layers_in, layers_of, shapes_in, style_in};
 ghost use Rattle.jx_codestream.specs.TileHeaders.{with_own};
 
 use crate::component::{params_by, planes_by, step_by};
-use crate::index::{Index, has_shape};
+use crate::index::{Index, comp_named, has_shape};
 use crate::precedence::{cod_of, shape_of};
 use crate::reading::canvas_of;
-use crate::{Params, Stream};
+use crate::shapes::{comp_shape, comps_of, shape_by, shapes_of, sized_shapes};
+use crate::{Params, Stream, slots};
 use jx_base::{Band, NoMemory, Style};
 use jx_geom::{Canvas, CompShape, Shapes};
-use jx_marker::{CompSize, Segment, Siz};
+use jx_marker::{Segment, Siz};
 use std::alloc::Global;
 use std::marker::Model;
 
@@ -63,62 +65,6 @@ impl<'a> Model for TileView<'a> {
         × (t.shapes ≡ shapes_in (with_own t.main.now t.own.segments.now)) };
 }
 
-/// How many components a picture has, at most 16,384.
-pub fn comps_of(siz: &Siz) -> u16
-    requires { length siz.now.comps ≤ 16384 }
-    ensures { result ≡ length siz.now.comps }
-{
-    siz.comps.as_slice().len() as u16
-}
-
-/// A component's subsampling.
-fn size_of(siz: &Siz, comp: u16) -> CompSize
-    ensures { result ≡ size_in siz.now comp }
-{
-    match siz.comps.as_slice().get(usize::from(comp)) {
-        Some(size) => *size,
-        None => CompSize {
-            ssiz: 0,
-            dx: 1,
-            dy: 1,
-        },
-    }
-}
-
-/// The shape of a component.
-fn comp_shape(siz: &Siz, own: &Index, main: &Index, comp: u16) -> CompShape
-    ensures { result ≡ comp_shape (record { siz = siz.now; main = main.now.segments.now; own = own.now.segments.now }) comp }
-{
-    let size = size_of(siz, comp);
-    let params = params_by(own, main, comp);
-    let precincts = params.precincts;
-    CompShape {
-        dx: size.dx,
-        dy: size.dy,
-        levels: params.levels,
-        xcb: params.xcb,
-        ycb: params.ycb,
-        precincts,
-    }
-}
-
-/// The shapes of all components.
-fn shapes_of(
-    alloc: Global,
-    siz: &Siz,
-    own: &Index,
-    main: &Index,
-) -> Result<Vec<CompShape>, NoMemory>
-    requires { length siz.now.comps ≤ 16384 }
-    ensures { IfOk result (λ shapes. shapes.items ≡ shapes_in (record { siz = siz.now; main = main.now.segments.now; own = own.now.segments.now })) }
-{
-    let mut shapes = Vec::new(alloc);
-    for comp in 0..comps_of(siz) {
-        shapes.push(comp_shape(siz, own, main, comp))?;
-    }
-    Ok(shapes)
-}
-
 impl<'a> MainView<'a> {
     /// The view of a picture's SIZ and of the segments after it in the main header.
     pub fn new(alloc: Global, siz: &'a Siz, main: &'a [Segment]) -> Result<Self, NoMemory>
@@ -158,6 +104,45 @@ impl<'a> MainView<'a> {
     }
 }
 
+/// The shapes of a tile but for the components that its header names: by its COD, or else those of the main header. They are
+/// found once, or copied whole, whatever stands in the headers.
+fn default_shapes(alloc: Global, main: &MainView, own: &Index) -> Result<Vec<CompShape>, NoMemory>
+    requires { length main.now.siz.comps ≤ 16384 }
+    ensures { IfOk result (λ shapes. HasShapes (with_own main.now own.now.segments.now) own.now.segments.now shapes.items) }
+{
+    let Some(segment) = own.in_slot(slots::COD) else {
+        return Ok(Vec::from_slice(alloc, main.shapes().as_slice())?);
+    };
+    let shapes = sized_shapes(alloc, main.siz(), &shape_by(segment))?;
+    Ok(shapes)
+}
+
+/// Puts the shape of the component that a segment names.
+fn put_named(main: &MainView, own: &Index, segment: &Segment, shapes: &mut Vec<CompShape>)
+    ensures { (left : List Segment) → HasShapes (with_own main.now own.now.segments.now) (segment.now ∷ left) shapes.old.items
+        → HasShapes (with_own main.now own.now.segments.now) left shapes.new.items }
+{
+    let Some(comp) = comp_named(segment) else {
+        return;
+    };
+    if usize::from(comp) >= shapes.len() {
+        return;
+    }
+    shapes[usize::from(comp)] = comp_shape(main.siz(), own, main.index(), comp);
+}
+
+/// The shapes of a tile whose header has a COD or a COC. Only the components that it names are looked up one by one.
+fn coded_shapes(alloc: Global, main: &MainView, own: &Index) -> Result<Vec<CompShape>, NoMemory>
+    requires { length main.now.siz.comps ≤ 16384 }
+    ensures { IfOk result (λ shapes. shapes.items ≡ shapes_in (with_own main.now own.now.segments.now)) }
+{
+    let mut shapes = default_shapes(alloc, main, own)?;
+    for segment in own.segments {
+        put_named(main, own, segment, &mut shapes);
+    }
+    Ok(shapes)
+}
+
 /// The shapes of a tile: those of the main header where its own has no COD and no COC.
 #[tactic(auto, using(crate::proofs::CodingLemmas::view_uncoded))]
 fn tile_shapes(alloc: Global, main: &MainView, own: &Index) -> Result<Shapes, NoMemory>
@@ -167,7 +152,7 @@ fn tile_shapes(alloc: Global, main: &MainView, own: &Index) -> Result<Shapes, No
     if !has_shape(own.segments) {
         return main.shapes().share();
     }
-    Shapes::new(shapes_of(alloc, main.siz(), own, main.index())?)
+    Shapes::new(coded_shapes(alloc, main, own)?)
 }
 
 impl<'a> TileView<'a> {

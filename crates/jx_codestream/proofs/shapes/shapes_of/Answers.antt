@@ -3,7 +3,7 @@ use Rattle.std.specs.List.{range_with_len}
 use Rattle.jx_codestream.specs.TileHeaders.{TileHeaders}
 use Rattle.jx_codestream.specs.Shapes.{comp_shape}
 use Rattle.jx_codestream.proofs.ViewLemmas.{shape_pushed, shapes_made}
-use Rattle.jx_codestream.proofs.view.shapes_of.Goals as goal
+use Rattle.jx_codestream.proofs.shapes.shapes_of.Goals as goal
 
 pub loop-comp-preserved : goal.loop-comp-preserved
 loop-comp-preserved c =
