@@ -1,5 +1,5 @@
 -- Raw bits of a segment that bypasses the arithmetic coder: ITU-T T.800, Annex D.6.
-use Rattle.std.specs.Prelude.{ℕ, zero, suc, ◌+◌, ◌-◌, ◌*◌, ◌/◌, ◌%◌, ◌^◌, ◌==◌, Bool, true, List, [], ◌∷◌, ◌++◌, length, take, drop, replicate, if◌then◌else◌}
+use Rattle.std.specs.Prelude.{ℕ, zero, suc, ◌+◌, ◌-◌, ◌*◌, ◌/◌, ◌%◌, ◌^◌, ◌==◌, Bool, true, List, [], ◌∷◌, ◌++◌, length, take, drop, replicate, slice_index_or, if◌then◌else◌}
 
 -- how many bits a byte has: seven after FF, else eight
 abbrev pub raw_width : ℕ → ℕ
@@ -30,6 +30,10 @@ raw_looked_after before (byte ∷ rest) n = if n == 0 then 0 else 1 + raw_looked
 -- how many bytes of a segment are looked at for its first n bits
 abbrev pub raw_looked : List ℕ → ℕ → ℕ
 raw_looked segment n = raw_looked_after 0 segment n
+
+-- the same with so many places behind the first bytes, which are looked at
+abbrev pub looked_from : List ℕ → ℕ → ℕ → ℕ
+looked_from segment given places = given + raw_looked_after (slice_index_or (0 ∷ segment) given 0) (drop given segment) places
 
 -- the number that bits spell, the most significant first
 abbrev pub number_of : List Bool → ℕ

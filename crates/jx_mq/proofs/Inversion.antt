@@ -59,7 +59,7 @@ end_coder w x [] h = h
 end_coder w x (Decided label bit ∷ given) h = end_coder (mq_wrote w x label bit) (mq_after_bit w x label bit) given (wrote_coder w x label bit h)
 end_coder w x (Renewed ∷ given) h = end_coder w mq_fresh given h
 
-now_coding : (w : MqWriter) (x : MqContexts) (label : ℕ) (bit : Bool) → IsCoder w → IsCoding (mq_part w (mq_row_of x label).qe (mq_is_mps x label bit))
+pub now_coding : (w : MqWriter) (x : MqContexts) (label : ℕ) (bit : Bool) → IsCoder w → IsCoding (mq_part w (mq_row_of x label).qe (mq_is_mps x label bit))
 now_coding w x label bit h =
     let row = row_in_range (slice_index_or x.rows label 0) in
     let low = h.low in
@@ -86,7 +86,7 @@ part_back w qe false byte last most h =
     fits_either (ltb (w.a - qe) qe) (mq_upper w qe) (mq_lower w qe) w byte last (high_back w qe byte last most) (low_back w qe byte last most) h
 
 -- the finished bytes lie in the interval of every state on the way
-fits_all : (w : MqWriter) (x : MqContexts) (given : List MqGiven) (byte : ℕ → ℕ) (last : ℕ) → IsCoder w → front byte last ≡ mq_flushed (mq_written_from w x given).writer → FitsIn w byte last
+pub fits_all : (w : MqWriter) (x : MqContexts) (given : List MqGiven) (byte : ℕ → ℕ) (last : ℕ) → IsCoder w → front byte last ≡ mq_flushed (mq_written_from w x given).writer → FitsIn w byte last
 fits_all w x [] byte last h is = flush_fits w h byte last is
 fits_all w x (Decided label bit ∷ given) byte last h is =
     let row = row_in_range (slice_index_or x.rows label 0) in
@@ -174,7 +174,7 @@ moved_follows s r last v least room f =
       taken = rw places f.taken;
     })
 
-start_follows : (s : List ℕ) (last : ℕ) → IsSegment (mq_byte s) last → FollowsOn mq_writer (mq_reader s) (mq_byte s) last
+pub start_follows : (s : List ℕ) (last : ℕ) → IsSegment (mq_byte s) last → FollowsOn mq_writer (mq_reader s) (mq_byte s) last
 unfolding first_reader
 start_follows s last segment =
     let fits = byte_fits (mq_byte s) last 0 segment in
@@ -189,7 +189,7 @@ long_at w after g =
     (suc (length g.1.1.1.0), (omega arith, rw g.1.1.1.1.bytes refl))
 
 -- a flush gives out at least one byte
-flushed_long : (w : MqWriter) → IsCoder w → (last : ℕ) × ((0 < last) × (suc last ≡ length (mq_flushed w)))
+pub flushed_long : (w : MqWriter) → IsCoder w → (last : ℕ) × ((0 < last) × (suc last ≡ length (mq_flushed w)))
 flushed_long w h =
     let long = long_at (widened (flushed_first w)) (flushed_second w) (second_out w h) in
     (long.0, (long.1.0, long.1.1 ∙ ap (λ (bytes : List ℕ). length bytes) (sym (flushed_is w))))

@@ -46,7 +46,7 @@ looked_if : (test : Bool) (x y : MqReader) (n : ℕ) → x.looked ≡ n → y.lo
 looked_if true x y n p q = p
 looked_if false x y n p q = q
 
-looked_in : (s : List ℕ) (r : MqReader) → (mq_byte_in s r).looked ≡ r.place + 2
+pub looked_in : (s : List ℕ) (r : MqReader) → (mq_byte_in s r).looked ≡ r.place + 2
 looked_in s r =
     let next : ℕ = mq_byte s (r.place + 1) in
     looked_if (mq_byte s r.place == 255) (if ltb 143 next then marked r else stuffed next r) (plain next r) (r.place + 2)
@@ -146,7 +146,7 @@ pub start_seen : (s : List ℕ) → IsSeen (mq_reader s)
 unfolding first_reader
 start_seen s = let h = first_seen s in record { near = h.seen.near }
 
-start_looked : (s : List ℕ) → (mq_reader s).looked ≡ 2
+pub start_looked : (s : List ℕ) → (mq_reader s).looked ≡ 2
 unfolding first_reader
 start_looked s = looked_in s (first_reader s)
 

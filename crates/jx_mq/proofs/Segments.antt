@@ -69,6 +69,14 @@ trimmed_length [] = omega arith
 trimmed_length (byte ∷ older) =
     elim (cases_eq byte 255) [ inl ff ↦ rw (eq-eqb byte 255 ff) (omega arith) | inr ne ↦ rw (ne_eqb byte 255 ne) (omega arith) ]
 
+-- at most one byte is left out
+pub trimmed_short : (bytes : List ℕ) (last : ℕ) → suc last ≡ length bytes → last ≤ suc (length (in_order (mq_trimmed bytes)))
+trimmed_short [] last long = absurd (omega arith)
+trimmed_short (byte ∷ older) last long =
+    let all = order_length (byte ∷ older) in
+    let fewer = order_length older in
+    elim (cases_eq byte 255) [ inl ff ↦ rw (eq-eqb byte 255 ff, fewer) (omega arith) | inr ne ↦ rw (ne_eqb byte 255 ne, all) (omega arith) ]
+
 -- what was given out, read as a segment
 pub segment_of : (bytes : List ℕ) (last : ℕ) → AreGiven bytes → 0 < last → suc last ≡ length bytes → IsSegment (mq_byte (in_order (mq_trimmed bytes))) last
 segment_of bytes last given some long = record {

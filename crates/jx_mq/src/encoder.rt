@@ -1,4 +1,4 @@
-ghost use Rattle.std.specs.Prelude.{◌≡◌, ◌*◌, ◌/◌, ◌%◌, ◌^◌, ◌<◌, ◌≤◌, ◌==◌, ℕ, List, [], ◌∷◌, reverse, IfOk, OnOk};
+ghost use Rattle.std.specs.Prelude.{◌≡◌, ◌-◌, ◌*◌, ◌/◌, ◌%◌, ◌^◌, ◌<◌, ◌≤◌, ◌==◌, ℕ, List, [], ◌∷◌, length, reverse, IfOk, OnOk};
 ghost use Rattle.jx_coder_specs.specs.MqWriting.{MqWriter, mq_writer, mq_byte_out, mq_renormalized, mq_part, mq_wrote, mq_after_bit, mq_last_number, mq_given_out, mq_segment};
 ghost use Rattle.jx_mq.specs.Coding.{given, writer_of, IsCoding, IsCoder};
 ghost use Rattle.jx_mq.specs.Shifting.{mq_moved_by, IsShort};
@@ -270,6 +270,21 @@ impl MqEncoder {
                 Err(refused)
             }
         }
+    }
+
+    /// How many bytes were given out so far.
+    pub fn given_out(&self) -> usize
+        ensures { result ≡ length self.now.bytes - 1 }
+    {
+        self.older.len()
+    }
+
+    /// How many places the bytes to come have of what was coded so far, in the scale of A: a decoder
+    /// has looked at the bytes that have one of them.
+    pub fn places(&self) -> u8
+        ensures { result ≡ 27 - self.now.ct }
+    {
+        (27 - self.registers.ct) as u8
     }
 
     /// The segment of all decisions (Annex C.2.9): its last byte is never FF.

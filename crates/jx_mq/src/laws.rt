@@ -1,10 +1,11 @@
 //! Laws of the arithmetic coder, over its definitions alone.
 
-ghost use Rattle.std.specs.Prelude.{◌≡◌, ◌<◌, ◌≤◌, ◌+◌, ◌*◌, ◌/◌, ℕ, List, [], ◌∷◌, ◌++◌, length, map, take};
+ghost use Rattle.std.specs.Prelude.{◌≡◌, ◌<◌, ◌≤◌, ◌+◌, ◌-◌, ◌*◌, ◌/◌, ℕ, List, [], ◌∷◌, ◌++◌, length, map, take};
 ghost use Rattle.jx_base.specs.Markers.{HasNoMarker};
 ghost use Rattle.jx_coder_specs.specs.MqTable.{MqContexts, mq_fresh};
 ghost use Rattle.jx_coder_specs.specs.MqReading.{MqReader, MqAsked, MqDecisions, mq_byte, mq_decisions, mq_decisions_from, mq_looked};
-ghost use Rattle.jx_coder_specs.specs.MqWriting.{MqWriter, MqGiven, mq_written_from, mq_write, mq_contexts_after, mq_asked, mq_bits, mq_write_each, mq_bits_each, mq_contexts_left, mq_contexts_each};
+ghost use Rattle.jx_coder_specs.specs.MqWriting.{MqWriter, MqGiven, mq_writer, mq_written_from, mq_write, mq_contexts_after, mq_asked, mq_bits, mq_write_each, mq_bits_each, mq_contexts_left, mq_contexts_each};
+ghost use Rattle.jx_coder_specs.specs.RawBits.{looked_from};
 ghost use Rattle.jx_mq.specs.Pace.{spared_in};
 
 /// What the encoder writes of a list of decisions and resets, from any contexts, is read back by
@@ -55,4 +56,12 @@ pub fn segments_are_short()
     ensures paced { (x : MqContexts) → (given : List MqGiven) →
         7 * length (mq_write x given) + spared_in (mq_contexts_after x given).rows ≤ 6 * length given + 14 + spared_in x.rows }
     ensures fresh { (given : List MqGiven) → length (mq_write mq_fresh given) ≤ 6 * length given / 7 + 2 }
+{}
+
+/// How many bytes of a finished segment its decoder has looked at by the end of the first decisions is
+/// told by what the encoder's registers were then: the bytes given out, and the places that C holds.
+pub fn ends_are_told()
+    ensures { (x : MqContexts) → (first : List MqGiven) → (more : List MqGiven) →
+        let w = (mq_written_from mq_writer x first).writer in
+        mq_looked (mq_write x (first ++ more)) x (mq_asked first) ≡ looked_from (mq_write x (first ++ more)) (length w.bytes - 1) (27 - w.ct) }
 {}

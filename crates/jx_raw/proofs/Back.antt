@@ -15,10 +15,10 @@ use Rattle.jx_raw.proofs.Bytes.{number-bits_of, byte-bits_of, byte-below, bits-b
 IsFront : List Bool → List Bool → Type 0
 IsFront bits all = (more : List Bool) × (all ≡ bits ++ more)
 
-shorter : (n before : ℕ) (bits : List Bool) → 0 < length bits → length bits < suc n → length (drop (raw_width before) bits) < n
+pub shorter : (n before : ℕ) (bits : List Bool) → 0 < length bits → length bits < suc n → length (drop (raw_width before) bits) < n
 shorter n before bits some less = let w = room before in rw (length-drop (raw_width before) bits) (omega arith)
 
-written_more : (n before : ℕ) (bits : List Bool) → 0 < length bits →
+pub written_more : (n before : ℕ) (bits : List Bool) → 0 < length bits →
     raw_write_after (suc n) before bits ≡
     byte_of (raw_width before) (take (raw_width before) bits) ∷ raw_write_after n (byte_of (raw_width before) (take (raw_width before) bits)) (drop (raw_width before) bits)
 written_more n before [] some = absurd (omega arith)

@@ -40,7 +40,7 @@ IsAt-suc before (byte ∷ rest) (suc (suc place)) current inside h = IsAt-suc by
 pub IsAt-next : (bytes : List ℕ) (place current : ℕ) → place < length bytes → IsAt 0 bytes place current 0 → IsAt 0 bytes (place + 1) (get_or bytes place 0) (raw_width current - 1)
 IsAt-next bytes place current inside h = rw add-one (IsAt-suc 0 bytes place current inside h)
 
-looked_none : (before : ℕ) (bytes : List ℕ) → raw_looked_after before bytes 0 ≡ 0
+pub looked_none : (before : ℕ) (bytes : List ℕ) → raw_looked_after before bytes 0 ≡ 0
 looked_none before [] = refl
 looked_none before (byte ∷ rest) = refl
 

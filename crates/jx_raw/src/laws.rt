@@ -36,3 +36,10 @@ pub fn raw_bits_depend_on_bytes_looked_at()
     ensures dropped { (s : List ℕ) → (n : ℕ) → raw_read (s ++ 255 ∷ []) n ≡ raw_read s n }
     ensures more { (s : List ℕ) → (m : ℕ) → (n : ℕ) → m ≤ n → raw_looked s m ≤ raw_looked s n }
 {}
+
+/// The bytes that a reader of a finished segment looks at for its first bits are those that these bits
+/// make by themselves.
+pub fn raw_ends_are_told()
+    ensures { (bits : List Bool) → (more : List Bool) →
+        raw_looked (raw_write (bits ++ more)) (length bits) ≡ raw_looked (raw_write bits) (length bits) }
+{}

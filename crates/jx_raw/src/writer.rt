@@ -1,7 +1,7 @@
 //! Raw bits, written (T.800, D.6).
 
-ghost use Rattle.std.specs.Prelude.{◌≡◌, Bool, List, [], ◌∷◌, ◌++◌, IfOk, OnOk};
-ghost use Rattle.jx_coder_specs.specs.RawBits.{raw_write};
+ghost use Rattle.std.specs.Prelude.{◌≡◌, Bool, List, [], ◌∷◌, ◌++◌, length, IfOk, OnOk};
+ghost use Rattle.jx_coder_specs.specs.RawBits.{raw_write, raw_looked};
 ghost use Rattle.jx_raw.specs.RawWriting.{bits_written, IsBegun};
 
 use jx_base::NoMemory;
@@ -54,6 +54,16 @@ impl RawWriter {
         self.partial = 0;
         self.count = 0;
         Ok(())
+    }
+
+    /// How many bytes a reader looks at for the bits so far.
+    pub fn looked(&self) -> usize
+        ensures { result ≡ raw_looked (raw_write self.now) (length self.now) }
+    {
+        if self.count > 0 {
+            return self.bytes.len() + 1;
+        }
+        self.bytes.len()
     }
 
     /// The segment: zeros fill the last byte, and a byte 00 follows a last FF.

@@ -44,6 +44,7 @@ pub record IsReadPass (c : Coding) (g : Cells) (pass : ℕ) (before after : Deco
   pub reading : after.reading ≡ read_all before.reading (pass_needs c g pass before.cells)
   pub rest : after.rest ≡ before.rest
   pub wrong : after.wrong ≡ before.wrong
+  pub looked : after.looked ≡ before.looked ++ looked_of after.reading ∷ []
 
 bits_read : (c : Coding) (g : Cells) (pass : ℕ) (d : Decoding) (more : List MqGiven) → d.reading.raw ≡ raw_pass c.style pass
     → Gives (read_all d.reading (renewal c)) (called_for (raw_pass c.style pass) g (tree_of c pass d.cells) ++ more)
@@ -86,6 +87,7 @@ pass_read c g pass d e h =
       reading = ap (λ (x : Decoding). x.reading) f ∙ sym (read_all_more ren (own ++ symbol) d.reading ∙ read_all_more own symbol r1);
       rest = ap (λ (x : Decoding). x.rest) f;
       wrong = ap (λ (x : Decoding). x.wrong) f ∙ right_kept d.wrong pass;
+      looked = ap (λ (x : Decoding). x.looked) f ∙ ap (λ (r : Reading). d.looked ++ looked_of r ∷ []) (sym (ap (λ (x : Decoding). x.reading) f));
     }
 
 pub opened_cells : (b : Bool) (style pass : ℕ) (d : Decoding) → (opened_if b style pass d).cells ≡ d.cells
@@ -101,11 +103,11 @@ pub record IsRead (c : Coding) (g : Cells) (count pass : ℕ) (d : Decoding) : T
   pub cells : (read_from c count pass d).cells ≡ followed_from c g count pass d.cells
   pub wrong : (read_from c count pass d).wrong ≡ d.wrong
 
-abbrev ReadyAt : Coding → Cells → ℕ → ℕ → Decoding → Type 0
+abbrev pub ReadyAt : Coding → Cells → ℕ → ℕ → Decoding → Type 0
 ReadyAt c g left pass d = Ready c.style pass (needs_from c g left pass d.cells) (opened c.style pass d).reading (opened c.style pass d).rest
 
 -- the next pass is ready after one that was read
-ready_next : AreInverse → (c : Coding) (g : Cells) (left pass : ℕ) (d after : Decoding)
+pub ready_next : AreInverse → (c : Coding) (g : Cells) (left pass : ℕ) (d after : Decoding)
     → IsReadPass c g pass d after
     → MatchBool (end_pass c.style pass || is_last (needs_from c g left (pass + 1) (followed_pass c g pass d.cells)))
     (d.rest ≡ segments_from c.style (pass + 1) (read_all d.reading (pass_needs c g pass d.cells)).contexts [] (needs_from c g left (pass + 1) (followed_pass c g pass d.cells)))
@@ -149,7 +151,7 @@ reads_back i c g (suc count) (suc left) pass d l h =
     }
 
 -- at the start the passes are ready
-first_ready : AreInverse → (c : Coding) (g : Cells) (passes width height : ℕ)
+pub first_ready : AreInverse → (c : Coding) (g : Cells) (passes width height : ℕ)
     → ReadyAt c g passes 0 (at_start width height (segments_from c.style 0 mq_fresh [] (needs_from c g passes 0 (zeros width height))))
 unfolding needs_from
 first_ready i c g zero width height = tt

@@ -10,13 +10,13 @@ use Rattle.jx_tier1_specs.specs.Writing.{Writing, wrote, fresh_writing, segment_
 use Rattle.jx_tier1_specs.proofs.KindLemmas.{same_kind}
 use Rattle.jx_tier1_specs.proofs.WroteLemmas.{made, wrote_more, wrote_target, or_false}
 
-wrote_mq : (given : List MqGiven) (g : Cells) (mq : MqWriter) (bits : List Bool) (x : MqContexts)
+pub wrote_mq : (given : List MqGiven) (g : Cells) (mq : MqWriter) (bits : List Bool) (x : MqContexts)
     → wrote (made g false mq bits x) given ≡ made g false (mq_written_from mq x given).writer bits (mq_written_from mq x given).contexts
 wrote_mq [] g mq bits x = refl
 wrote_mq (Decided label bit ∷ given) g mq bits x = wrote_mq given g (mq_wrote mq x label bit) bits (mq_after_bit mq x label bit)
 wrote_mq (Renewed ∷ given) g mq bits x = wrote_mq given g mq bits mq_fresh
 
-wrote_bits : (given : List MqGiven) (g : Cells) (mq : MqWriter) (bits : List Bool) (x : MqContexts)
+pub wrote_bits : (given : List MqGiven) (g : Cells) (mq : MqWriter) (bits : List Bool) (x : MqContexts)
     → wrote (made g true mq bits x) given ≡ made g true mq (bits ++ mq_bits given) (renewed_by x given)
 wrote_bits [] g mq bits x = ap (λ (b : List Bool). made g true mq b x) (sym (append-nil bits))
 wrote_bits (Decided label bit ∷ given) g mq bits x =
@@ -24,11 +24,11 @@ wrote_bits (Decided label bit ∷ given) g mq bits x =
     ∙ ap (λ (b : List Bool). made g true mq b (renewed_by x given)) (append_assoc bits (bit ∷ []) (mq_bits given))
 wrote_bits (Renewed ∷ given) g mq bits x = wrote_bits given g mq bits mq_fresh
 
-segment_is : (raw : Bool) (g : Cells) (x : MqContexts) (given : List MqGiven) → segment_of raw x given ≡ segment_by (wrote (fresh_writing g raw x) given)
+pub segment_is : (raw : Bool) (g : Cells) (x : MqContexts) (given : List MqGiven) → segment_of raw x given ≡ segment_by (wrote (fresh_writing g raw x) given)
 segment_is true g x given = ap (λ (w : Writing). segment_by w) (sym (wrote_bits given g mq_writer [] x))
 segment_is false g x given = ap (λ (w : Writing). segment_by w) (sym (wrote_mq given g mq_writer [] x))
 
-contexts_is : (raw : Bool) (g : Cells) (x : MqContexts) (given : List MqGiven) → contexts_after raw x given ≡ (wrote (fresh_writing g raw x) given).contexts
+pub contexts_is : (raw : Bool) (g : Cells) (x : MqContexts) (given : List MqGiven) → contexts_after raw x given ≡ (wrote (fresh_writing g raw x) given).contexts
 contexts_is true g x given = ap (λ (w : Writing). w.contexts) (sym (wrote_bits given g mq_writer [] x))
 contexts_is false g x given = ap (λ (w : Writing). w.contexts) (sym (wrote_mq given g mq_writer [] x))
 

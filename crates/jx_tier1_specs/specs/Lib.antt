@@ -2,6 +2,7 @@ pub mod Alike
 pub mod Asking
 pub mod Cells
 pub mod Encoding
+pub mod Ends
 pub mod Labels
 pub mod Near
 pub mod Needs

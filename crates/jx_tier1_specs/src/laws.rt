@@ -1,9 +1,13 @@
 //! Laws of coded passes, over their definitions alone.
 
-ghost use Rattle.std.specs.Prelude.{◌≡◌, ◌≤◌, ℕ, List, None};
+ghost use Rattle.std.specs.Prelude.{◌≡◌, ◌≤◌, ℕ, List, [], take, None};
+ghost use Rattle.jx_coder_specs.specs.MqTable.{mq_fresh};
+ghost use Rattle.jx_base.specs.Passes.{raw_pass};
 ghost use Rattle.jx_tier1_specs.specs.Cells.{Cells};
 ghost use Rattle.jx_tier1_specs.specs.Reading.{Coding, zeros, decoded};
-ghost use Rattle.jx_tier1_specs.specs.Needs.{followed_from, written, Fits};
+ghost use Rattle.jx_tier1_specs.specs.Needs.{followed_from, needs, written, Fits};
+ghost use Rattle.jx_tier1_specs.specs.Writing.{fresh_writing};
+ghost use Rattle.jx_tier1_specs.specs.Ends.{ends_from};
 ghost use Rattle.jx_tier1_specs.specs.Alike.{HasPasses, AreAlike, AreOfOneBlock, EndsPlane};
 
 /// The segments that are written for a grid are read back: the first passes of them give what the
@@ -19,6 +23,22 @@ pub fn written_is_read_back()
 {
     jx_mq::laws::decisions_are_read_back();
     jx_raw::laws::raw_bits_are_read_back();
+}
+
+/// How many bytes a decoder of the segments that are written for a grid has looked at by the end of
+/// each pass is told by where the encoder stood then, and of any segments the first passes by
+/// themselves tell as much.
+pub fn ends_of_passes_are_told()
+    ensures told { (c : Coding) → (g : Cells) → (passes : ℕ) →
+        (decoded g.width g.height c (written c g passes) passes).looked ≡ ends_from c.style 0 [] (fresh_writing g (raw_pass c.style 0) mq_fresh) (needs c g passes) }
+    ensures first { (width : ℕ) → (height : ℕ) → (c : Coding) → (segments : List (List ℕ)) → (passes : ℕ) → (first : ℕ) → first ≤ passes →
+        (decoded width height c segments first).looked ≡ take first (decoded width height c segments passes).looked }
+{
+    jx_mq::laws::decisions_are_read_back();
+    jx_mq::laws::ends_are_told();
+    jx_raw::laws::raw_bits_are_read_back();
+    jx_raw::laws::raw_bits_one_by_one();
+    jx_raw::laws::raw_ends_are_told();
 }
 
 /// Coefficients that were decoded from any segments fit the same passes in every style that agrees on

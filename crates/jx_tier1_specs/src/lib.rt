@@ -10,6 +10,7 @@ pub mod laws;
 mod question;
 mod reader;
 mod source;
+mod stand;
 mod symbol;
 
 pub use coded::{BadSymbol, Coded, Segments};
@@ -18,4 +19,5 @@ pub use labels::{refinement_label, sign_label, significance_label};
 pub use question::{About, Plane, Question};
 pub use reader::Reader;
 pub use source::Source;
+pub use stand::Stand;
 pub use symbol::ask_symbol;
