@@ -1,14 +1,14 @@
 -- Words of `make`, and what they ask for.
-use Rattle.std.proofs.Common.{◌≡◌, ◌<◌, ◌≤◌, ◌^◌, ◌-◌, ◌∙◌, ap, sym, subst, refl, arith, ℕ, true, false, List, [], ◌∷◌, Option, None, Some, inl, inr, codes, drop, unwrap_or, slice_index_or}
+use Rattle.std.proofs.Common.{◌≡◌, ◌<◌, ◌≤◌, ◌^◌, ◌-◌, ◌∙◌, ap, sym, refl, arith, ℕ, true, false, List, [], ◌∷◌, Option, None, Some, inl, inr, codes, drop, unwrap_or}
 use Rattle.std.specs.Str.{bytes_eq}
 use Rattle.std.specs.Fmt.{decimal}
-use Rattle.std.proofs.lemmas.Bool.{and_parts, cases_Bool, cases_lt}
+use Rattle.std.proofs.lemmas.Bool.{cases_Bool, cases_lt}
 use Rattle.std.proofs.lemmas.Fmt.{decimal_digit, decimal_injective}
 use Rattle.std.proofs.lemmas.Slice.Eq.{bytes_eq-Decides}
 use Rattle.clap.specs.Words.{fault_of}
 use Rattle.clap.proofs.OnLiterals.{clap_on_literals}
 use Rattle.jx_cli.specs.Command.{with_place}
-use Rattle.jx_cli.specs.Words.{Text, is_good, names_command}
+use Rattle.jx_cli.specs.Words.{Text}
 use Rattle.jx_cli.specs.MakeWords.{Make, MayBeMade, are_numbers, is_make, is_taken, made_in, make, make_of}
 use Rattle.jx_options.specs.Values.{seed_said, side_said}
 use Rattle.jx_cli.specs.MakeFound.{AsksMake, make_by, texts_of, under}

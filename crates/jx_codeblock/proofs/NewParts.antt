@@ -43,6 +43,17 @@ ends_parts b style ends ss table seen looked are cuts same e =
     ∙ parts_at_cuts (sent_by_looks style.bits b.passes ss looked) (sent_in b (Some style) ends ss) style.bits 0 b.passes ends are cuts
     (λ (n : ℕ) le cut. same_looks style.bits b.passes n ss looked (decoded_in b style.bits ss).looked cut)
 
+-- from a table of what is known to be looked at
+pub learnt_parts : (b : Block) (style : Style) (ends : List LayerEnd) (ss : List (List ℕ)) (table : List ℕ) (seen : List (List ℕ)) (looked : List ℕ) → AreEnds 0 0 b.passes ends
+    → seen ≡ ss → looked ≡ (decoded_in b style.bits ss).looked → table ≡ map (sent_by_looks style.bits b.passes seen looked) (range_with_len 0 (b.passes + 1))
+    → layer_parts_after style.bits (at_place table) 0 ends ≡ layer_parts_after style.bits (sent_in b (Some style) ends ss) 0 ends
+learnt_parts b style ends ss table seen looked are same far e =
+    let n : List ℕ = range_with_len 0 (b.passes + 1) in
+    listed_table (sent_by_looks style.bits b.passes ss (decoded_in b style.bits ss).looked) style.bits b.passes ends table are
+    (e
+    ∙ ap (λ (s : List (List ℕ)). map (sent_by_looks style.bits b.passes s looked) n) same
+    ∙ ap (λ (l : List ℕ). map (sent_by_looks style.bits b.passes ss l) n) far)
+
 -- ---- looking no further than the last end within a segment
 -- that end, the others before it, and where passes are cut
 abbrev IsTold : ℕ → ℕ → ℕ → ℕ → Type 0

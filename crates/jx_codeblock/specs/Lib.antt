@@ -10,3 +10,4 @@ pub mod Tables
 pub mod Groups
 pub mod Starts
 pub mod Held
+pub mod Learnt

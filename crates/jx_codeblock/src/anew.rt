@@ -7,10 +7,12 @@ ghost use Rattle.jx_tier1_specs.specs.Cells.{HasSize};
 ghost use Rattle.jx_codeblock.specs.Jobs.{AreEnds};
 ghost use Rattle.jx_codeblock.specs.Recoded.{HasCause};
 ghost use Rattle.jx_codeblock.specs.Recoding.{layer_parts_after, sent_in, own_segments, decoded_in, wrong_in};
+ghost use Rattle.jx_codeblock.specs.Learnt.{IsLearnt};
 ghost use Rattle.jx_codeblock.specs.Segments.{bytes_before};
 ghost use Rattle.jx_codeblock.specs.Tables.{are_cut};
 ghost use Rattle.jx_base.specs.Limits.{most_bytes};
 
+use crate::lists::NewLists;
 use crate::looks::{looked_in, own_decoded};
 use crate::own::{all_cut, last_within};
 use crate::parts::all_parts;
@@ -96,22 +98,45 @@ fn parts_by_looks(
     all_parts(alloc, style, ends, &table)
 }
 
-/// The parts of the segments in which a block is coded anew. They are decoded only where a layer ends
-/// within one of them.
+/// The parts of new segments, where it is known how far a decoder of them looks.
+fn parts_learnt(
+    alloc: Global,
+    block: &Block<'_>,
+    style: Style,
+    ends: &[LayerEnd],
+    segments: &Segments<'_>,
+    looked: &[usize],
+) -> Result<Vec<LayerPart>, NoMemory>
+    requires sound { IsSound block.now }
+    requires ends { AreEnds 0 0 block.now.passes ends.now }
+    requires looked { looked.now ≡ (decoded_in block.now style.bits segments.now).looked }
+    requires few { bytes_before segments.now (length segments.now) ≤ most_bytes }
+    ensures { IfOk result (λ parts. parts.items ≡ layer_parts_after style.bits (sent_in block.now (Some style) ends.now segments.now) 0 ends.now) }
+{
+    let table = by_looks(alloc, style, block.passes, segments.as_slice(), looked)?;
+    all_parts(alloc, style, ends, &table)
+}
+
+/// The parts of the segments in which a block is coded anew. Where it wasn't learnt how far a decoder looks
+/// they are decoded, and only if a layer ends within one of them.
 pub(crate) fn parts_of(
     alloc: Global,
     block: &Block<'_>,
     style: Style,
     ends: &[LayerEnd],
-    lists: &[Vec<u8>],
+    new: &NewLists,
 ) -> Result<Vec<LayerPart>, NoMemory>
     requires sound { IsSound block.now }
     requires some { 1 ≤ block.now.passes }
     requires ends { AreEnds 0 0 block.now.passes ends.now }
-    requires few { length (concat (map (λ l. l.items) lists.now)) ≤ most_bytes }
-    ensures { IfOk result (λ parts. parts.items ≡ layer_parts_after style.bits (sent_in block.now (Some style) ends.now (map (λ l. l.items) lists.now)) 0 ends.now) }
+    requires looked { IsLearnt block.now style new.now }
+    requires few { length (concat (map (λ l. l.items) new.now.lists.items)) ≤ most_bytes }
+    ensures { IfOk result (λ parts. parts.items ≡ layer_parts_after style.bits (sent_in block.now (Some style) ends.now (map (λ l. l.items) new.now.lists.items)) 0 ends.now) }
 {
-    let segments = segments_of(alloc, lists)?;
+    let segments = segments_of(alloc, &new.lists)?;
+    if let Some(looked) = &new.looked {
+        return parts_learnt(alloc, block, style, ends, &segments, looked);
+    }
     if all_cut(style, block.passes, ends) {
         return parts_by_ends(alloc, block, style, ends, &segments);
     }

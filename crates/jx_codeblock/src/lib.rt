@@ -10,6 +10,7 @@ mod faults;
 mod held;
 mod job;
 pub mod laws;
+mod lists;
 mod looks;
 mod made;
 mod own;

@@ -8,6 +8,7 @@ ghost use Rattle.jx_codeblock.specs.Jobs.{IsAsked};
 ghost use Rattle.jx_codeblock.specs.Laws.{IsWithin};
 ghost use Rattle.jx_codeblock.specs.Recoding.{coding_in, decoded_in, own_segments, layer_part_bytes, recoded_pieces, wrong_in};
 ghost use Rattle.jx_codeblock.specs.Recoded.{recoding_in, is_bad, HasCause};
+ghost use Rattle.jx_codeblock.specs.Learnt.{IsLearnt};
 ghost use Rattle.jx_codeblock.specs.Written.{block_with, own_cells};
 ghost use Rattle.jx_base.specs.Limits.{most_bytes};
 
@@ -16,6 +17,7 @@ use crate::copy::{append_bytes, append_within};
 use crate::decide::parts_of;
 use crate::held::Held;
 use crate::laws::written_keeps_coefficients;
+use crate::lists::NewLists;
 use crate::made::Made;
 use crate::starts::starts_of;
 use crate::step::lists_in_step;
@@ -73,31 +75,36 @@ fn nothing<'a>(job: &'a Job<'a>) -> Recoded<'a>
 }
 
 /// The segments of a block that is to be coded anew, which is decoded first.
-fn lists_apart(alloc: Global, job: &Job<'_>, style: Style) -> Result<Vec<Vec<u8>>, BlockFault>
+fn lists_apart(alloc: Global, job: &Job<'_>, style: Style) -> Result<NewLists, BlockFault>
     requires sound { IsSound job.now.block.now }
     requires some { 1 ≤ job.now.block.now.passes }
     requires anew { job.now.style ≢ None }
-    ensures lists { let b = job.now.block.now in IfOk result (λ lists. map (λ l. l.items) lists.items
+    ensures lists { let b = job.now.block.now in IfOk result (λ new. map (λ l. l.items) new.lists.items
         ≡ written (coding_in b style.bits) (decoded_in b b.style.bits (own_segments b)).cells b.passes) }
-    ensures right { IfOk result (λ lists. wrong_in job.now.block.now ≡ None) }
+    ensures looked { IfOk result (λ new. IsLearnt job.now.block.now style new) }
+    ensures right { IfOk result (λ new. wrong_in job.now.block.now ≡ None) }
     ensures bad { IfErr result (λ e. HasCause job.now e) }
 {
     let block = job.block;
     let grid = own_cells(alloc, job)?;
     let planes = block.planes - block.zero;
     let lists = encode_flags(alloc, &grid, block.name.band, style, planes, block.passes)?;
-    Ok(lists)
+    Ok(NewLists {
+        lists,
+        looked: None,
+    })
 }
 
 /// The segments of a block that is to be coded anew. Where its causal bit stays they are written while
 /// the block is decoded.
-fn new_lists(alloc: Global, job: &Job<'_>, style: Style) -> Result<Vec<Vec<u8>>, BlockFault>
+fn new_lists(alloc: Global, job: &Job<'_>, style: Style) -> Result<NewLists, BlockFault>
     requires sound { IsSound job.now.block.now }
     requires some { 1 ≤ job.now.block.now.passes }
     requires anew { job.now.style ≢ None }
-    ensures lists { let b = job.now.block.now in IfOk result (λ lists. map (λ l. l.items) lists.items
+    ensures lists { let b = job.now.block.now in IfOk result (λ new. map (λ l. l.items) new.lists.items
         ≡ written (coding_in b style.bits) (decoded_in b b.style.bits (own_segments b)).cells b.passes) }
-    ensures right { IfOk result (λ lists. wrong_in job.now.block.now ≡ None) }
+    ensures looked { IfOk result (λ new. IsLearnt job.now.block.now style new) }
+    ensures right { IfOk result (λ new. wrong_in job.now.block.now ≡ None) }
     ensures bad { IfErr result (λ e. HasCause job.now e) }
 {
     if style.causal() == job.block.style.causal() {
@@ -116,9 +123,9 @@ fn code_anew<'a>(alloc: Global, job: &'a Job<'a>, style: Style) -> Result<Recode
     ensures bad { IfErr result (λ e. HasCause job.now e) }
 {
     let block = job.block;
-    let lists = new_lists(alloc, job, style)?;
-    let bytes = all_bytes(alloc, &lists)?;
-    let parts = parts_anew(alloc, block, style, job.ends.as_slice(), &lists)?;
+    let new = new_lists(alloc, job, style)?;
+    let bytes = all_bytes(alloc, &new.lists)?;
+    let parts = parts_anew(alloc, block, style, job.ends.as_slice(), &new)?;
     let made = Made::of(alloc, Held::New(bytes), parts)?;
     Ok(Recoded { job, made })
 }

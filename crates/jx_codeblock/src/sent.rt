@@ -47,6 +47,16 @@ pub(crate) fn number_at(table: &[u32], at: usize) -> u32
     0
 }
 
+/// How many bytes were looked at by the end of a pass, 0 past the last one.
+fn seen_at(looked: &[usize], pass: usize) -> usize
+    ensures { result ≡ slice_index_or looked.now pass 0 }
+{
+    if pass < looked.len() {
+        return looked[pass];
+    }
+    0
+}
+
 /// The segment of a number, one of no bytes where there is none.
 fn segment_at<'a>(segments: &[&'a [u8]], at: usize) -> &'a [u8]
     ensures { result.now ≡ slice_index_or (map bytes_of segments.now) at [] }
@@ -75,7 +85,7 @@ fn sent_at(
     style: Style,
     all: u16,
     segments: &[&[u8]],
-    looked: &[u32],
+    looked: &[usize],
     passes: u16,
     at: usize,
     before: u32,
@@ -92,7 +102,7 @@ fn sent_at(
     if passes == 0 || ends_segment(style, passes - 1) {
         return before;
     }
-    let seen = number_at(looked, usize::from(passes - 1)) as usize;
+    let seen = seen_at(looked, usize::from(passes - 1));
     before + less_last_ff(segment_at(segments, at), seen) as u32
 }
 
@@ -131,7 +141,7 @@ pub(crate) fn by_looks(
     style: Style,
     passes: u16,
     segments: &[&[u8]],
-    looked: &[u32],
+    looked: &[usize],
 ) -> Result<Vec<u32>, NoMemory>
     requires passes { passes < 2 ^ 15 }
     requires few { AreFew style.bits (map bytes_of segments.now) looked.now }

@@ -8,7 +8,9 @@ ghost use Rattle.jx_tier1_specs.specs.Short.{AreShort};
 ghost use Rattle.jx_codeblock.specs.Recoded.{HasCause};
 ghost use Rattle.jx_codeblock.specs.Recoding.{own_segments, coding_in, decoded_in, wrong_in};
 ghost use Rattle.jx_codeblock.specs.Groups.{groups};
+ghost use Rattle.jx_codeblock.specs.Learnt.{IsLearnt};
 
+use crate::lists::NewLists;
 use crate::looks::coded_in;
 use crate::segments::{goes_on, joined, segments_apart, segments_in};
 use crate::{BlockFault, Job};
@@ -32,6 +34,7 @@ fn recode(
     requires causal { is_causal style.bits ≡ is_causal coded.now.style.bits }
     ensures segments { IfOk result (λ r. map (λ s. s.items) r.segments.items
         ≡ written (coding_in block.now style.bits) (decoded_in block.now coded.now.style.bits coded.now.segments).cells block.now.passes) }
+    ensures looked { IfOk result (λ r. r.looked.items ≡ (decoded_in block.now style.bits (map (λ s. s.items) r.segments.items)).looked) }
     ensures wrong { IfOk result (λ r. r.wrong ≡ (decoded_in block.now coded.now.style.bits coded.now.segments).wrong) }
 {
     let wide = block.rect.x.len() as u16;
@@ -52,6 +55,7 @@ fn recoded_from(
     requires causal { is_causal style.bits ≡ is_causal block.now.style.bits }
     ensures segments { IfOk result (λ r. map (λ s. s.items) r.segments.items
         ≡ written (coding_in block.now style.bits) (decoded_in block.now block.now.style.bits (own_segments block.now)).cells block.now.passes) }
+    ensures looked { IfOk result (λ r. r.looked.items ≡ (decoded_in block.now style.bits (map (λ s. s.items) r.segments.items)).looked) }
     ensures wrong { IfOk result (λ r. r.wrong ≡ wrong_in block.now) }
 {
     let coded = coded_in(block, block.style, segments);
@@ -65,6 +69,7 @@ fn own_recoded(alloc: Global, block: &Block<'_>, style: Style) -> Result<FlagRec
     requires causal { is_causal style.bits ≡ is_causal block.now.style.bits }
     ensures segments { IfOk result (λ r. map (λ s. s.items) r.segments.items
         ≡ written (coding_in block.now style.bits) (decoded_in block.now block.now.style.bits (own_segments block.now)).cells block.now.passes) }
+    ensures looked { IfOk result (λ r. r.looked.items ≡ (decoded_in block.now style.bits (map (λ s. s.items) r.segments.items)).looked) }
     ensures wrong { IfOk result (λ r. r.wrong ≡ wrong_in block.now) }
 {
     let pieces = block.pieces.as_slice();
@@ -77,24 +82,29 @@ fn own_recoded(alloc: Global, block: &Block<'_>, style: Style) -> Result<FlagRec
     recoded_from(alloc, block, style, segments)
 }
 
-/// The segments of a block that is to be coded anew in a style that agrees on causal contexts.
+/// The segments of a block that is to be coded anew in a style that agrees on causal contexts, and how far
+/// a decoder of them looks.
 pub(crate) fn lists_in_step(
     alloc: Global,
     job: &Job<'_>,
     style: Style,
-) -> Result<Vec<Vec<u8>>, BlockFault>
+) -> Result<NewLists, BlockFault>
     requires sound { IsSound job.now.block.now }
     requires some { 1 ≤ job.now.block.now.passes }
     requires anew { job.now.style ≢ None }
     requires causal { is_causal style.bits ≡ is_causal job.now.block.now.style.bits }
-    ensures lists { let b = job.now.block.now in IfOk result (λ lists. map (λ l. l.items) lists.items
+    ensures lists { let b = job.now.block.now in IfOk result (λ new. map (λ l. l.items) new.lists.items
         ≡ written (coding_in b style.bits) (decoded_in b b.style.bits (own_segments b)).cells b.passes) }
-    ensures right { IfOk result (λ lists. wrong_in job.now.block.now ≡ None) }
+    ensures looked { IfOk result (λ new. IsLearnt job.now.block.now style new) }
+    ensures right { IfOk result (λ new. wrong_in job.now.block.now ≡ None) }
     ensures bad { IfErr result (λ e. HasCause job.now e) }
 {
     let recoded = own_recoded(alloc, job.block, style)?;
     if recoded.wrong.is_some() {
         return Err(BlockFault::BadSegmentation(job.number));
     }
-    Ok(recoded.segments)
+    Ok(NewLists {
+        lists: recoded.segments,
+        looked: Some(recoded.looked),
+    })
 }

@@ -1,5 +1,5 @@
 -- The walk over the boxes of the top level whose types are told.
-use Rattle.std.proofs.Common.{◌≡◌, ◌≤◌, ◌<◌, ◌++◌, ℕ, arith, refl, sym, ap, subst, ◌∙◌, true, List, [], ◌∷◌, length, map, Some, None}
+use Rattle.std.proofs.Common.{◌≡◌, ◌≤◌, ◌<◌, ◌++◌, ℕ, arith, refl, sym, ap, subst, ◌∙◌, true, List, [], ◌∷◌, length, map, None}
 use Rattle.jx_jp2.specs.declared.Boxed.{Boxed}
 use Rattle.jx_jp2.specs.declared.faults.BoxFault.{BoxFault}
 use Rattle.jx_jp2.specs.declared.faults.BoxFault.TheVariants as fault

@@ -1,7 +1,7 @@
 //! Rows of words, and what is read of them.
 
 use crate::checks::equal;
-use jx_cli::{Request, WordsFault, read_boxes, read_make, read_words};
+use jx_cli::{Request, WordsFault, read_boxes, read_make, read_same, read_show, read_words};
 use jx_options::{FormChoice, OrderChoice};
 use std::alloc::{AllocError, Global};
 use std::test::Fail;
@@ -117,10 +117,10 @@ static REQUESTS: [Row; 14] = [
         (1, 64, 1),
     ),
     (
-        "transcode in out --window-bytes 268435456",
+        "transcode in out --window-bytes 4294967295",
         ["in", "out"],
         None,
-        (1, 64, MOST),
+        (1, 64, 4_294_967_295),
     ),
     (
         "transcode --window-bytes=20 in --threads 8 out --window=300",
@@ -215,7 +215,7 @@ fn words_of_make(rt: HostRuntime) -> Result<(), Fail> {
 // Whether words ask for the boxes of a file of this name, or why they ask for none.
 fn names(alloc: Global, words: &[String], name: &str) -> Result<bool, WordsFault> {
     match read_boxes(alloc, words) {
-        Ok(found) => Ok(found.as_str() == name),
+        Ok(asked) => Ok(asked.name() == name),
         Err(fault) => Err(fault),
     }
 }
@@ -249,5 +249,59 @@ fn words_of_boxes(rt: HostRuntime) -> Result<(), Fail> {
         equal(&rt, names_of_line(rt.alloc(), line, name), *want);
     }
     equal(&rt, names(rt.alloc(), &[], ""), Err(WordsFault::Words));
+    Ok(())
+}
+
+// How many bytes a file may have by words of a command that reads one, or why they are none.
+fn limit_of(alloc: Global, words: &[String]) -> Result<u32, WordsFault> {
+    if let Ok(request) = read_words(alloc, words) {
+        return Ok(request.limit());
+    }
+    if let Ok(asked) = read_boxes(alloc, words) {
+        return Ok(asked.limit());
+    }
+    if let Ok(names) = read_same(alloc, words) {
+        return Ok(names.limit());
+    }
+    match read_show(alloc, words) {
+        Ok(asked) => Ok(asked.limit()),
+        Err(fault) => Err(fault),
+    }
+}
+
+// The same of a line.
+fn limit_of_line(alloc: Global, line: &str) -> Result<u32, WordsFault> {
+    match words_of(alloc, line) {
+        Ok(words) => limit_of(alloc, &words),
+        Err(_) => Err(WordsFault::NoMemory),
+    }
+}
+
+static LIMITS: [(&str, Result<u32, WordsFault>); 12] = [
+    ("transcode in out", Ok(MOST)),
+    ("transcode in out --limit-bytes 1", Ok(1)),
+    (
+        "transcode --limit-bytes=4294967295 in out",
+        Ok(4_294_967_295),
+    ),
+    (
+        "transcode in out --limit-bytes 4294967296",
+        Err(WordsFault::Words),
+    ),
+    ("boxes in", Ok(MOST)),
+    ("boxes in --limit-bytes 4294967295", Ok(4_294_967_295)),
+    ("boxes in --limit-bytes 0", Err(WordsFault::Words)),
+    ("same a b", Ok(MOST)),
+    ("same --limit-bytes 7 a --threads 2 b", Ok(7)),
+    ("show in --json", Ok(MOST)),
+    ("show --limit-bytes=20 --json in", Ok(20)),
+    ("show in --limit-bytes 020", Err(WordsFault::Words)),
+];
+
+#[test]
+fn limits_of_words(rt: HostRuntime) -> Result<(), Fail> {
+    for (line, want) in &LIMITS {
+        equal(&rt, limit_of_line(rt.alloc(), line), *want);
+    }
     Ok(())
 }

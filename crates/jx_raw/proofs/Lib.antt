@@ -4,5 +4,5 @@ mod Bytes
 pub mod Lengths
 pub mod Looking
 pub mod Reading
-pub mod Told
+mod Told
 mod Writing

@@ -71,7 +71,7 @@ symbol_if : (b : Bool) (g : Cells) (w : Writing)
 symbol_if true g w = symbol_made g w.target w.raw w.mq w.bits w.contexts
 symbol_if false g w = refl
 
-abbrev coded_by : Cells → Writing → List (List ℕ) → Encoding
+abbrev pub coded_by : Cells → Writing → List (List ℕ) → Encoding
 coded_by cells w done = record { cells = cells; writing = w; done = done }
 
 -- a recoding as the encoding of a grid
@@ -109,27 +109,38 @@ bits_are c d pass r s g h e a =
 abbrev pub copier_at : Coding → Coding → ℕ → Recoding → Copying
 copier_at c d pass r = renewed_both c.style d.style (begun c.style pass r).copying
 
+-- the pen at a pass's end
+abbrev pub pen_at : Coding → Coding → ℕ → Recoding → Writing
+pen_at c d pass r =
+    if ends_by_symbol d.style pass then (told write_answer symbol_asked (told copy_answer (tree_of c pass r.cells) (copier_at c d pass r)).1.writing).1
+    else (told copy_answer (tree_of c pass r.cells) (copier_at c d pass r)).1.writing
+
+-- what it has written is what a grid calls for that answers so
+pub pass_coded : (c d : Coding) (pass : ℕ) (r : Recoding) (g : Cells) → AreAlike c d → r.copying.writing.raw ≡ raw_pass d.style pass
+    → AnswersAs copy_answer g (tree_of c pass r.cells) (copier_at c d pass r)
+    → after_pass d pass (encoding_of g r) ≡ coded_by (told copy_answer (tree_of c pass r.cells) (copier_at c d pass r)).0 (aimed g (pen_at c d pass r)) r.done
+unfolding begun
+pass_coded c d pass r g h k a =
+    let s : Copying = copier_at c d pass r in
+    let t : Asking Cells = tree_of c pass r.cells in
+    let here : Bool = ends_by_symbol d.style pass in
+    let v : Writing = (told copy_answer t s).1.writing in
+    let cells : Cells = (told copy_answer t s).0 in
+    let b = bits_are c d pass r s g h (renewed_if (resets d.style) g r.copying.writing) a in
+    let S = λ (x : Encoding). after_symbol d.style pass x in
+    let W = λ (x : Writing). coded_by cells x r.done in
+    sym (pass_wrote d pass (encoding_of g r) k) ∙ (ap S b ∙ (marked_if here (W (aimed g v)) ∙ ap W (symbol_if here g v)))
+
 -- a pass is one of an encoder of a grid that answers so
 pub pass_encodes : (c d : Coding) (last : Bool) (pass : ℕ) (r : Recoding) (g : Cells) → AreAlike c d → r.copying.writing.raw ≡ raw_pass d.style pass
     → AnswersAs copy_answer g (tree_of c pass r.cells) (copier_at c d pass r)
     → encoding_of g (recoded_pass c d last pass r) ≡ after_step d last pass (encoding_of g r)
 unfolding begun copied checked marked ended
 pass_encodes c d last pass r g h k a =
-    let s : Copying = copier_at c d pass r in
-    let t : Asking Cells = tree_of c pass r.cells in
-    let e : Encoding = encoding_of g r in
-    let here : Bool = ends_by_symbol d.style pass in
     let ends : Bool = end_pass d.style pass || last in
-    let v : Writing = (told copy_answer t s).1.writing in
-    let w : Writing = if here then (told write_answer symbol_asked v).1 else v in
-    let cells : Cells = (told copy_answer t s).0 in
-    let b = bits_are c d pass r s g h (renewed_if (resets d.style) g r.copying.writing) a in
-    let S = λ (x : Encoding). after_symbol d.style pass x in
-    let W = λ (x : Writing). coded_by cells x r.done in
+    let cells : Cells = (told copy_answer (tree_of c pass r.cells) (copier_at c d pass r)).0 in
     let F = λ (x : Encoding). if ends then closed d.style pass x else x in
-    let m : after_pass d pass e ≡ W (aimed g w) =
-    sym (pass_wrote d pass e k) ∙ (ap S b ∙ (marked_if here (W (aimed g v)) ∙ ap W (symbol_if here g v))) in
-    sym (ap F m ∙ ended_if ends d.style pass g cells w r.done)
+    sym (ap F (pass_coded c d pass r g h k a) ∙ ended_if ends d.style pass g cells (pen_at c d pass r) r.done)
 
 -- a recoding as a decoding
 abbrev pub decoding_of : List ℕ → Recoding → Decoding

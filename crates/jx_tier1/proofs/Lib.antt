@@ -32,6 +32,7 @@ mod SignLemmas
 mod SignificanceLemmas
 mod SixLemmas
 mod StepLemmas
+mod TellLemmas
 mod ToldLemmas
 mod TreeLemmas
 mod TurnLemmas

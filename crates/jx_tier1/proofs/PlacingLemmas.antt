@@ -87,7 +87,7 @@ way_next c d w h passes pass m n now next start b l o g =
     }
 
 pub way_done : (c d : Coding) (w h passes pass : ℕ) (m : Marking) (now start : Recoding) → passes ≤ pass → IsOnWay c d w h passes pass m now start
-    → (now.done ≡ (recoded_from c d passes 0 start).done) × (now.wrong ≡ (recoded_from c d passes 0 start).wrong)
+    → (now.done ≡ (recoded_from c d passes 0 start).done) × ((now.looked ≡ (recoded_from c d passes 0 start).looked) × (now.wrong ≡ (recoded_from c d passes 0 start).wrong))
 way_done c d w h passes pass m now start l o =
     let e : placed o.cells now ≡ recoded_from c d passes 0 start = sym (recoded_end c d passes pass (placed o.cells now) l) ∙ o.so_far in
-    (ap (λ (x : Recoding). x.done) e, ap (λ (x : Recoding). x.wrong) e)
+    (ap (λ (x : Recoding). x.done) e, (ap (λ (x : Recoding). x.looked) e, ap (λ (x : Recoding). x.wrong) e))

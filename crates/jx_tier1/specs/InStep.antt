@@ -1,6 +1,6 @@
 -- Passes that are decoded and coded in step: each decision that is read is written, under the label that it was read under
 -- (ITU-T T.800, D.3, D.4).
-use Rattle.std.specs.Prelude.{ℕ, zero, suc, ◌+◌, ◌==◌, Bool, false, ◌||◌, List, [], ◌∷◌, ◌++◌, drop, if◌then◌else◌, Option, None}
+use Rattle.std.specs.Prelude.{ℕ, zero, suc, ◌+◌, ◌==◌, Bool, false, ◌||◌, List, [], ◌∷◌, ◌++◌, drop, map, if◌then◌else◌, Option, None}
 use Rattle.jx_coder_specs.specs.MqTable.{mq_fresh}
 use Rattle.jx_base.specs.Passes.{raw_pass, end_pass, is_causal}
 use Rattle.jx_tier1_specs.specs.declared.question.Question.{Question}
@@ -12,6 +12,8 @@ use Rattle.jx_tier1_specs.specs.Symbol.{symbol_asked}
 use Rattle.jx_tier1_specs.specs.Reading.{Reading, Coding, fresh_reading, first_segment, renewed, read_answer, read_symbol, turned_over, ends_by_symbol, first_wrong, zeros}
 use Rattle.jx_tier1_specs.specs.Writing.{Writing, fresh_writing, after_coded, write_answer, segment_by}
 use Rattle.jx_tier1_specs.specs.Encoding.{renewed_writing}
+use Rattle.jx_tier1_specs.specs.declared.stand.Stand.{Stand}
+use Rattle.jx_tier1_specs.specs.Ends.{stand_of, end_in}
 
 -- the grid of a writing that asks none
 abbrev pub no_grid : Cells
@@ -34,13 +36,16 @@ copy_answer s question =
     )
 
 -- after some passes: the coefficients, the coders, the segments that weren't begun, the first pass whose segmentation symbol is
--- wrong, and the segments that are done
+-- wrong, the segments that are done, where the pen stood at the ends of passes within the one that isn't, and how many bytes of those
+-- that are done a decoder has looked at by the end of each pass
 pub record Recoding : Type 0 where
   pub cells : Cells
   pub copying : Copying
   pub rest : List (List ℕ)
   pub wrong : Option ℕ
   pub done : List (List ℕ)
+  pub stands : List Stand
+  pub looked : List ℕ
 
 -- a segment of the old style begins where a pass does
 unfoldable pub begun : ℕ → ℕ → Recoding → Recoding
@@ -90,6 +95,11 @@ ended style last pass r = record r {
         else r.copying.writing;
   };
   done = if end_pass style pass || last then r.done ++ segment_by r.copying.writing ∷ [] else r.done;
+  stands = if end_pass style pass || last then [] else r.stands ++ stand_of r.copying.writing ∷ [];
+  looked =
+      if end_pass style pass || last
+      then r.looked ++ map (λ s. end_in (segment_by r.copying.writing) s) (r.stands ++ stand_of r.copying.writing ∷ [])
+      else r.looked;
 }
 
 -- a pass
@@ -108,4 +118,6 @@ to_recode width height new segments = record {
   rest = segments;
   wrong = None;
   done = [];
+  stands = [];
+  looked = [];
 }

@@ -26,7 +26,7 @@ pub struct FlagDecoded {
     /// The coefficients.
     pub grid: FlagGrid,
     /// For each pass, how many bytes of its segment were read or compared by its end.
-    pub looked: Vec<u32>,
+    pub looked: Vec<usize>,
     /// The first pass whose segmentation symbol isn't 1010 (T.800 D.5).
     pub wrong: Option<u16>,
 }

@@ -26,7 +26,7 @@ pub struct Decoder<'a> {
     pub noter: Noter<'a>,
     pub segments: &'a [&'a [u8]],
     pub next: usize,
-    pub looked: Vec<u32>,
+    pub looked: Vec<usize>,
     pub wrong: Option<u16>,
 }
 
@@ -103,7 +103,7 @@ impl<'a> Decoder<'a> {
           wrong = first_wrong self.old.wrong pass right;
         }) }
     {
-        self.looked.push(self.noter.reader.looked())?;
+        self.looked.push(self.noter.reader.looked() as usize)?;
         if self.wrong.is_none() && !right {
             self.wrong = Some(pass);
         }

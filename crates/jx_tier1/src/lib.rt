@@ -10,6 +10,7 @@ mod decode;
 mod decoder;
 mod encode;
 mod encoder;
+mod ends;
 mod grid;
 mod half;
 mod labels;

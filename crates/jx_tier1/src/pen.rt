@@ -7,12 +7,13 @@ ghost use Rattle.jx_tier1_specs.specs.Asking.{told};
 ghost use Rattle.jx_tier1_specs.specs.Symbol.{symbol_bit, symbol_asked};
 ghost use Rattle.jx_tier1_specs.specs.Reading.{turned_over};
 ghost use Rattle.jx_tier1_specs.specs.Writing.{Writing, fresh_writing, after_coded, write_answer, segment_by};
+ghost use Rattle.jx_tier1_specs.specs.Ends.{stand_of};
 ghost use Rattle.jx_tier1.specs.InStep.{no_grid};
 
 use jx_base::NoMemory;
 use jx_mq::{Contexts, MqEncoder};
 use jx_raw::RawWriter;
-use jx_tier1_specs::{About, Question};
+use jx_tier1_specs::{About, Question, Stand};
 use std::alloc::Global;
 use std::marker::Model;
 
@@ -107,6 +108,22 @@ impl Pen {
         self.write(symbol_question(false), false)?;
         self.write(symbol_question(true), true)?;
         self.write(symbol_question(false), false)
+    }
+
+    /// Where it stands within its segment.
+    pub fn stand(&self) -> Stand
+        ensures { result ≡ stand_of self.now }
+    {
+        if self.is_raw {
+            return Stand {
+                given: self.bits.looked(),
+                places: 0,
+            };
+        }
+        Stand {
+            given: self.encoder.given_out(),
+            places: self.encoder.places(),
+        }
     }
 
     /// The segment so far, after which another one begins, with the contexts kept (T.800 D.4).

@@ -20,6 +20,7 @@ use crate::recoder::Recoder;
 use crate::turns::turns_of;
 use jx_base::{NoMemory, Style, is_raw};
 use jx_mq::Contexts;
+use jx_tier1_specs::laws::ends_of_passes_are_told;
 use jx_tier1_specs::{Coded, Reader};
 use std::alloc::Global;
 
@@ -28,6 +29,8 @@ use std::alloc::Global;
 pub struct FlagRecoded {
     /// Its segments in the new style.
     pub segments: Vec<Vec<u8>>,
+    /// For each pass, how many bytes of its new segment a decoder has looked at by its end.
+    pub looked: Vec<usize>,
     /// The first pass whose segmentation symbol wasn't 1010 in the old style (T.800 D.5).
     pub wrong: Option<u16>,
 }
@@ -76,16 +79,20 @@ fn start<'a>(
         next: 0,
         wrong: None,
         done: Vec::new(alloc),
+        stands: Vec::new(alloc),
+        looked: Vec::new(alloc),
     })
 }
 
 /// What a block gives whose passes were decoded and coded.
 fn end(recoder: Recoder) -> FlagRecoded
     ensures segments { map (λ s. s.items) result.segments.items ≡ recoder.entry.done }
+    ensures looked { result.looked.items ≡ recoder.entry.looked }
     ensures wrong { result.wrong ≡ recoder.entry.wrong }
 {
     FlagRecoded {
         segments: recoder.done,
+        looked: recoder.looked,
         wrong: recoder.wrong,
     }
 }
@@ -112,6 +119,9 @@ fn run<'a>(
     ensures done { let planes = coded.now.planes in let band = coded.now.band in
         let start = placed (zeros marks.old.width marks.old.height) recoder.old in
         OnOk result (recoder.new.done ≡ (recoded_from (coding_of band coded.now.style.bits planes) (coding_of band style.bits planes) coded.now.passes 0 start).done) }
+    ensures looked { let planes = coded.now.planes in let band = coded.now.band in
+        let start = placed (zeros marks.old.width marks.old.height) recoder.old in
+        OnOk result (recoder.new.looked ≡ (recoded_from (coding_of band coded.now.style.bits planes) (coding_of band style.bits planes) coded.now.passes 0 start).looked) }
     ensures wrong { let planes = coded.now.planes in let band = coded.now.band in
         let start = placed (zeros marks.old.width marks.old.height) recoder.old in
         OnOk result (recoder.new.wrong ≡ (recoded_from (coding_of band coded.now.style.bits planes) (coding_of band style.bits planes) coded.now.passes 0 start).wrong) }
@@ -151,6 +161,9 @@ fn run_block<'a>(
     ensures done { let planes = coded.now.planes in let band = coded.now.band in
         let start = placed (zeros width height) recoder.old in
         OnOk result (recoder.new.done ≡ (recoded_from (coding_of band coded.now.style.bits planes) (coding_of band style.bits planes) coded.now.passes 0 start).done) }
+    ensures looked { let planes = coded.now.planes in let band = coded.now.band in
+        let start = placed (zeros width height) recoder.old in
+        OnOk result (recoder.new.looked ≡ (recoded_from (coding_of band coded.now.style.bits planes) (coding_of band style.bits planes) coded.now.passes 0 start).looked) }
     ensures wrong { let planes = coded.now.planes in let band = coded.now.band in
         let start = placed (zeros width height) recoder.old in
         OnOk result (recoder.new.wrong ≡ (recoded_from (coding_of band coded.now.style.bits planes) (coding_of band style.bits planes) coded.now.passes 0 start).wrong) }
@@ -165,7 +178,7 @@ fn run_block<'a>(
 /// (T.800, Annex D), which are decoded and coded in step. Each segment has fewer than 2^32 bytes; one
 /// that isn't there is taken as one of no bytes. Both styles agree on causal contexts, so that each
 /// decision is coded as it is read. The segments are those of the coefficients, whatever the
-/// segmentation symbols.
+/// segmentation symbols, and how far a decoder of them looks is learnt in the same walk.
 pub fn recode_flags(
     alloc: Global,
     width: u16,
@@ -183,9 +196,12 @@ pub fn recode_flags(
     ensures segments { let c = coding_of coded.now.band coded.now.style.bits coded.now.planes in
         let d = coding_of coded.now.band style.bits coded.now.planes in
         IfOk result (λ r. map (λ s. s.items) r.segments.items ≡ written d (decoded width height c coded.now.segments coded.now.passes).cells coded.now.passes) }
+    ensures looked { let d = coding_of coded.now.band style.bits coded.now.planes in
+        IfOk result (λ r. r.looked.items ≡ (decoded width height d (map (λ s. s.items) r.segments.items) coded.now.passes).looked) }
     ensures wrong { let c = coding_of coded.now.band coded.now.style.bits coded.now.planes in
         IfOk result (λ r. r.wrong ≡ (decoded width height c coded.now.segments coded.now.passes).wrong) }
 {
+    ends_of_passes_are_told();
     let most = most_bytes(width, height, coded.passes);
     let mut recoder = start(alloc, style, coded.segments.as_slice(), most)?;
     let result = run_block(&mut recoder, alloc, width, height, coded, style);

@@ -1,7 +1,7 @@
 //! One coding pass after another, decoded and coded in step.
 
-ghost use Rattle.std.specs.Prelude.{◌≡◌, ◌+◌, ◌*◌, ◌++◌, ◌∷◌, [], ◌/◌, ◌%◌, ◌^◌, ◌==◌, ◌&&◌, ◌||◌, ◌<◌, ◌≤◌, ℕ, length, drop, OnOk, IfOk};
-ghost use Rattle.jx_base.specs.Passes.{raw_pass, is_causal, has_symbols};
+ghost use Rattle.std.specs.Prelude.{◌≡◌, ◌+◌, ◌*◌, ◌++◌, ◌∷◌, [], ◌/◌, ◌%◌, ◌^◌, ◌==◌, ◌&&◌, ◌||◌, ◌<◌, ◌≤◌, ℕ, length, map, drop, OnOk, IfOk};
+ghost use Rattle.jx_base.specs.Passes.{raw_pass, end_pass, is_causal, has_symbols};
 ghost use Rattle.jx_tier1_specs.specs.Asking.{told};
 ghost use Rattle.jx_tier1_specs.specs.Cells.{Cells};
 ghost use Rattle.jx_tier1_specs.specs.Pass.{IsScan, plane_of, scanned};
@@ -14,13 +14,15 @@ ghost use Rattle.jx_tier1.specs.Turns.{AreTurns};
 ghost use Rattle.jx_tier1.specs.Walking.{Ends, IsNow};
 ghost use Rattle.jx_tier1_specs.specs.Writing.{fresh_writing, segment_by};
 ghost use Rattle.jx_tier1_specs.specs.Short.{AreShort};
+ghost use Rattle.jx_tier1_specs.specs.Ends.{stand_of, end_in};
 
 use crate::copier::Copier;
+use crate::ends::tell;
 use crate::marks::Marks;
 use crate::questions::plane_for;
 use crate::walk_passes::walk_pass;
 use jx_base::{Band, NoMemory, Style, ends_segment, is_raw};
-use jx_tier1_specs::ask_symbol;
+use jx_tier1_specs::{Stand, ask_symbol};
 use std::alloc::Global;
 use std::marker::Model;
 
@@ -33,6 +35,8 @@ pub struct Recoder<'a> {
     pub next: usize,
     pub wrong: Option<u16>,
     pub done: Vec<Vec<u8>>,
+    pub stands: Vec<Stand>,
+    pub looked: Vec<usize>,
 }
 
 impl<'a> Model for Recoder<'a> {
@@ -48,6 +52,8 @@ impl<'a> Model for Recoder<'a> {
       rest = map bytes_of (drop r.next r.segments.now);
       wrong = r.wrong;
       done = map (λ s. s.items) r.done.items;
+      stands = r.stands.items;
+      looked = r.looked.items;
     } };
 }
 
@@ -56,6 +62,13 @@ fn has_symbol(style: Style, pass: u16) -> bool
     ensures { result ≡ ends_by_symbol style.bits pass }
 {
     style.segmentation() && pass % 3 == 0
+}
+
+/// Whether a segment ends with a pass, which may be the block's last.
+fn is_end(style: Style, pass: u16, last: bool) -> bool
+    ensures { result ≡ (end_pass style.bits pass || last) }
+{
+    ends_segment(style, pass) || last
 }
 
 impl<'a> Recoder<'a> {
@@ -156,7 +169,16 @@ impl<'a> Recoder<'a> {
         Ok(())
     }
 
-    /// Ends a segment of the new style.
+    /// Notes where the pen stands at the end of a pass.
+    fn note(&mut self) -> Result<(), NoMemory>
+        ensures { OnOk result (self.new ≡ record self.old { stands = self.old.stands ++ stand_of self.old.copying.writing ∷ [] }) }
+    {
+        let stand = self.copier.pen.stand();
+        self.stands.push(stand)?;
+        Ok(())
+    }
+
+    /// Ends a segment of the new style, of which it is known then how far a decoder has looked.
     fn end(&mut self, alloc: Global, style: Style, pass: u16) -> Result<(), NoMemory>
         requires { pass < 65535 }
         ensures recoding { OnOk result (self.new ≡ record self.old {
@@ -164,24 +186,30 @@ impl<'a> Recoder<'a> {
             writing = fresh_writing self.old.copying.writing.target (raw_pass style.bits (pass + 1)) self.old.copying.writing.contexts;
           };
           done = self.old.done ++ segment_by self.old.copying.writing ∷ [];
+          stands = [];
+          looked = self.old.looked ++ map (λ s. end_in (segment_by self.old.copying.writing) s) self.old.stands;
         }) }
     {
         let segment = self.copier.pen.finish(alloc, is_raw(style, pass + 1))?;
+        tell(&mut self.looked, &self.stands, &segment)?;
+        self.stands.clear();
         self.done.push(segment)?;
         Ok(())
     }
 
-    /// Ends a segment of the new style where the pass does.
+    /// Ends a pass, and a segment of the new style where the pass does.
     #[tactic(auto, unfolding(crate::specs::InStep::ended))]
     fn close(&mut self, alloc: Global, style: Style, pass: u16, last: bool) -> Result<(), NoMemory>
         requires { pass < 65535 }
         ensures recoding { OnOk result (self.new ≡ ended style.bits last pass self.old) }
         ensures rest { OnOk result (self.new.rest ≡ self.old.rest) }
     {
-        if !last && !ends_segment(style, pass) {
+        self.note()?;
+        if !is_end(style, pass, last) {
             return Ok(());
         }
-        self.end(alloc, style, pass)
+        self.end(alloc, style, pass)?;
+        Ok(())
     }
 
     /// The next pass of the block, which may be the last.

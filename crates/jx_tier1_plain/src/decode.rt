@@ -19,7 +19,7 @@ pub struct Decoded {
     /// The coefficients.
     pub grid: Grid,
     /// For each pass, how many bytes of its segment were read or compared by its end.
-    pub looked: Vec<u32>,
+    pub looked: Vec<usize>,
     /// The first pass whose segmentation symbol isn't 1010 (T.800 D.5).
     pub wrong: Option<u16>,
 }

@@ -20,7 +20,7 @@ pub struct Decoder<'a> {
     pub reader: Reader<'a>,
     pub segments: &'a [&'a [u8]],
     pub next: usize,
-    pub looked: Vec<u32>,
+    pub looked: Vec<usize>,
     pub wrong: Option<u16>,
 }
 
@@ -98,7 +98,7 @@ impl<'a> Decoder<'a> {
           wrong = first_wrong self.old.wrong pass right;
         }) }
     {
-        self.looked.push(self.reader.looked())?;
+        self.looked.push(self.reader.looked() as usize)?;
         if self.wrong.is_none() && !right {
             self.wrong = Some(pass);
         }

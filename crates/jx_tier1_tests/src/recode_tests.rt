@@ -37,7 +37,7 @@ pub(crate) fn drawn(alloc: Global, width: u16, height: u16, seed: u64) -> Result
 }
 
 /// Whether passes become the same segments in step as by decoding and coding, with the same wrong
-/// symbol. Both styles are to agree on causal contexts.
+/// symbol, and a decoder of them looks as far as was told. Both styles are to agree on causal contexts.
 fn is_same_in_step(
     alloc: Global,
     width: u16,
@@ -60,7 +60,17 @@ fn is_same_in_step(
     }
     let apart = encode_flags(alloc, &decoded.grid, coded.band, style, 9, coded.passes)?;
     let recoded = recode_flags(alloc, width, height, coded, style)?;
-    Ok(are_same(&apart, &recoded.segments) && recoded.wrong == decoded.wrong)
+    let again = Coded {
+        band: coded.band,
+        style,
+        planes: 9,
+        passes: coded.passes,
+        segments: gathered(alloc, &recoded.segments)?,
+    };
+    let read = decode_flags(alloc, width, height, &again)?;
+    Ok(are_same(&apart, &recoded.segments)
+        && recoded.wrong == decoded.wrong
+        && recoded.looked.as_slice() == read.looked.as_slice())
 }
 
 /// The same of the first passes of a drawn block.

@@ -200,7 +200,7 @@ fn end_of<R: Threads + Wait + Sync + Eprint + Clock, F: Files + TellsFault, S: S
     progress: &Progress<'_, R>,
 ) -> ExitCode
     requires opens { is_good (words_in args) ≡ true → F.can_open files.old (request_of (words_in args)).from }
-    requires lists { is_boxes (words_in args) ≡ true → F.can_open files.old (boxes_of (words_in args)) }
+    requires lists { is_boxes (words_in args) ≡ true → F.can_open files.old (boxes_of (words_in args)).name }
     requires compares { is_same (words_in args) ≡ true
         → F.can_open files.old (same_of (words_in args)).first × F.can_open files.old (same_of (words_in args)).second }
     requires shows { is_show (words_in args) ≡ true → F.can_open files.old (show_of (words_in args)).name }
@@ -239,7 +239,7 @@ pub(crate) fn start<
     progress: &Progress<'_, R>,
 ) -> Result<ExitCode, AllocError>
     requires opens { is_good (words_in args) ≡ true → F.can_open files.old (request_of (words_in args)).from }
-    requires lists { is_boxes (words_in args) ≡ true → F.can_open files.old (boxes_of (words_in args)) }
+    requires lists { is_boxes (words_in args) ≡ true → F.can_open files.old (boxes_of (words_in args)).name }
     requires compares { is_same (words_in args) ≡ true
         → F.can_open files.old (same_of (words_in args)).first × F.can_open files.old (same_of (words_in args)).second }
     requires shows { is_show (words_in args) ≡ true → F.can_open files.old (show_of (words_in args)).name }

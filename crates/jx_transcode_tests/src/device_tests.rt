@@ -48,6 +48,25 @@ fn any_length_may_be_said(rt: HostRuntime) -> Result<(), Fail> {
     Ok(())
 }
 
+// Of a file that is too long one byte more is read than it may have, and no more, whatever is said of its length.
+#[test]
+fn no_more_than_one_more_is_read(rt: HostRuntime) -> Result<(), Fail> {
+    let words = ["jx", "transcode", "in", "out", "--limit-bytes", "81"];
+    let status = Status::Limit {
+        number: 1,
+        found: 82,
+    };
+    let failing = [(Call::Read, 83)];
+    for length in [0, 5, 81, 82, 1_000_000] {
+        let devices = Devices {
+            length: Some(length),
+            ..slow_and_failing(&failing)
+        };
+        ends(&rt, &words, &devices, &ending(status, "limit 1: 82\n"))?;
+    }
+    Ok(())
+}
+
 // The bytes that were written before the call failed are the first ones of the file that is written where none fails.
 #[test]
 fn each_write_fails(rt: HostRuntime) -> Result<(), Fail> {

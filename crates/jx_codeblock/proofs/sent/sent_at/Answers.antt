@@ -8,4 +8,4 @@ overflow_add-result c =
     let next : c.from.result + 1 ≡ c.args.passes = omega (arith, c.from.ensures, c.if-passes-eq0.false) in
     let flat : end_pass c.args.style.bits c.from.result ≡ false = search rules in
     let within = few_bytes c.args.style.bits c.args.passes c.from.result c.args.at c.args.before c.args.segments.now c.args.looked.now c.requires.few c.requires.bytes c.requires.before c.requires.at next flat in
-    omega (arith, within, c.number_at-seen.ensures, c.less_last_ff.ensures.most)
+    omega (arith, within, c.seen_at-seen.ensures, c.less_last_ff.ensures.most)

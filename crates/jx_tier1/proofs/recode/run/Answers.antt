@@ -44,4 +44,4 @@ returns c =
     let d =
     way_done old new w h c.args.coded.now.passes c.loop-pass.pass c.loop-pass.marks c.loop-pass.recoder (placed (zeros w h) c.args.recoder.now)
     c.loop-pass-test.false c.loop-pass.invariant.way in
-    record { done = d.0; wrong = d.1 }
+    record { done = d.0; looked = d.1.0; wrong = d.1.1 }
