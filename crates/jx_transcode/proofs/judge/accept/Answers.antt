@@ -2,5 +2,5 @@ use Rattle.std.proofs.Common.{arith, inl, refl}
 use Rattle.jx_transcode.proofs.JudgeLemmas.{accepted_of, unfit_at}
 use Rattle.jx_transcode.proofs.judge.accept.Goals as goal
 
-pub returns-then-input-gt-limit-clause-err : goal.returns-then-input-gt-limit-clause-err
-returns-then-input-gt-limit-clause-err c = rw c.too_long.ensures (inl (omega (arith, c.if-input-gt-limit.true), refl, refl))
+pub returns-then-input-limit-clause-err : goal.returns-then-input-limit-clause-err
+returns-then-input-limit-clause-err c = rw c.too_long.ensures (inl (omega (arith, c.if-input-limit.true), refl, refl))
