@@ -155,15 +155,14 @@ fn with_options<'a>(alloc: Global, command: Command<'a>) -> Result<Command<'a>, 
     Ok(command)
 }
 
-/// With the most bytes that a file may have, in a command other than `transcode`.
-fn with_limit<'a>(alloc: Global, command: Command<'a>) -> Result<Command<'a>, AllocError> {
+/// The most bytes that a file may have, as clap takes it in a command other than `transcode`.
+fn limit_arg<'a>(alloc: Global) -> Arg<'a> {
     let text = option_text(OptionName::LimitBytes);
-    let limit = Arg::new(alloc, text.name)
+    Arg::new(alloc, text.name)
         .long(text.name)
         .help(text.help)
         .value_name(text.value)
-        .action(ArgAction::Set);
-    command.arg(limit)
+        .action(ArgAction::Set)
 }
 
 /// The command `transcode`, with its help.
@@ -189,7 +188,7 @@ fn boxes<'a>(alloc: Global) -> Result<Command<'a>, AllocError> {
     let read = "the JP2 or JPX file that is read; - is standard input";
     let command = Command::new(alloc, "boxes").about(BOXES).after_help(TREE);
     let command = with_place(alloc, command, "in", "IN", read)?;
-    with_limit(alloc, command)
+    command.arg(limit_arg(alloc))
 }
 
 /// The command `same`, with its help.
@@ -204,7 +203,7 @@ fn same<'a>(alloc: Global) -> Result<Command<'a>, AllocError> {
         .value_name("N")
         .action(ArgAction::Set);
     let command = command.arg(threads)?;
-    with_limit(alloc, command)
+    command.arg(limit_arg(alloc))
 }
 
 /// The command `show`, with its help.
@@ -217,7 +216,7 @@ fn show<'a>(alloc: Global) -> Result<Command<'a>, AllocError> {
     let command = Command::new(alloc, "show").about(SHOW).after_help(FACTS);
     let command = with_place(alloc, command, "in", "IN", read)?;
     let command = command.arg(json)?;
-    with_limit(alloc, command)
+    command.arg(limit_arg(alloc))
 }
 
 /// The program without its commands.

@@ -68,9 +68,11 @@ fn is_same_in_step(
         segments: gathered(alloc, &recoded.segments)?,
     };
     let read = decode_flags(alloc, width, height, &again)?;
-    Ok(are_same(&apart, &recoded.segments)
-        && recoded.wrong == decoded.wrong
-        && recoded.looked.as_slice() == read.looked.as_slice())
+    Ok(
+        are_same(&apart, &recoded.segments)
+            && recoded.wrong == decoded.wrong
+            && recoded.looked.as_slice() == read.looked.as_slice(),
+    )
 }
 
 /// The same of the first passes of a drawn block.
