@@ -155,9 +155,8 @@ fn with_options<'a>(alloc: Global, command: Command<'a>) -> Result<Command<'a>, 
     Ok(command)
 }
 
-/// The most bytes that a file may have, as clap takes it in a command other than `transcode`.
-fn limit_arg<'a>(alloc: Global) -> Arg<'a> {
-    let text = option_text(OptionName::LimitBytes);
+/// An option as clap takes it in a command other than `transcode`: a number, under no heading.
+fn number_of<'a>(alloc: Global, text: OptionText) -> Arg<'a> {
     Arg::new(alloc, text.name)
         .long(text.name)
         .help(text.help)
@@ -188,7 +187,7 @@ fn boxes<'a>(alloc: Global) -> Result<Command<'a>, AllocError> {
     let read = "the JP2 or JPX file that is read; - is standard input";
     let command = Command::new(alloc, "boxes").about(BOXES).after_help(TREE);
     let command = with_place(alloc, command, "in", "IN", read)?;
-    command.arg(limit_arg(alloc))
+    command.arg(number_of(alloc, option_text(OptionName::LimitBytes)))
 }
 
 /// The command `same`, with its help.
@@ -203,7 +202,7 @@ fn same<'a>(alloc: Global) -> Result<Command<'a>, AllocError> {
         .value_name("N")
         .action(ArgAction::Set);
     let command = command.arg(threads)?;
-    command.arg(limit_arg(alloc))
+    command.arg(number_of(alloc, option_text(OptionName::LimitBytes)))
 }
 
 /// The command `show`, with its help.
@@ -216,7 +215,7 @@ fn show<'a>(alloc: Global) -> Result<Command<'a>, AllocError> {
     let command = Command::new(alloc, "show").about(SHOW).after_help(FACTS);
     let command = with_place(alloc, command, "in", "IN", read)?;
     let command = command.arg(json)?;
-    command.arg(limit_arg(alloc))
+    command.arg(number_of(alloc, option_text(OptionName::LimitBytes)))
 }
 
 /// The program without its commands.
