@@ -34,4 +34,5 @@ mod BoxesVerdictLemmas
 pub mod RunLemmas
 mod AcceptedLemmas
 mod PlannedMade
+mod ShortMade
 mod MadeVerdictLemmas

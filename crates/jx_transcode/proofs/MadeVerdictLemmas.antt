@@ -1,11 +1,18 @@
 -- What the verdict on a generated codestream is not: of the limits none, no wrong block, and of the choices none but choice 7 and, where
 -- there is no rule of layers, choice 6.
-use Rattle.std.proofs.Common.{◌≡◌, ◌⊎◌, ◌≤◌, ◌<◌, ◌^◌, ℕ, List, length, All, inl, inr, refl, sym, subst, arith, Option, None, Some, IfSome}
+use Rattle.std.proofs.Common.{◌≡◌, ◌∙◌, ap, ◌⊎◌, ◌≤◌, ◌<◌, ◌^◌, ℕ, List, [], ◌∷◌, length, All, inl, inr, refl, sym, subst, arith, Option, None, Some, IfSome}
 use Rattle.std.specs.Prelude.{slice_get}
 use Rattle.std.proofs.lemmas.Option.{get_or_from_slice_get, slice_get_within}
 use Rattle.jx_base.specs.Limits.{most_bytes}
 use Rattle.jx_base.specs.declared.pieces.Block.{Block}
+use Rattle.jx_base.specs.Sound.{IsSound}
+use Rattle.jx_geom.specs.Geometry.{Geometry}
+use Rattle.jx_progression.specs.declared.names.PacketName.{PacketName}
+use Rattle.jx_progression.specs.Packets.{IsOrder}
 use Rattle.jx_codestream.specs.declared.Stream.{Stream}
+use Rattle.jx_codestream.specs.First.{tile_number}
+use Rattle.jx_codestream.specs.Shapes.{geometry}
+use Rattle.jx_codestream.specs.Spells.{TilePart}
 use Rattle.jx_codestream.specs.declared.faults.StreamFault.TheVariants as fault
 use Rattle.jx_tier2_reader.specs.Accepted.{IsAccepted}
 use Rattle.jx_layers.specs.declared.StreamFacts.{StreamFacts}
@@ -13,8 +20,12 @@ use Rattle.jx_layers.specs.Facts.{facts_of}
 use Rattle.jx_layers.specs.Rule.{Rule, layers_by}
 use Rattle.jx_plan.specs.declared.faults.PlanFault.{PlanFault}
 use Rattle.jx_plan.specs.declared.faults.PlanFault.TheVariants as unplanned
-use Rattle.jx_plan.specs.Plan.{MayBePlanned}
-use Rattle.jx_plan.specs.Planned.{HasPlanCause, MakesLayers}
+use Rattle.jx_plan.specs.Plan.{MayBePlanned, headers_with}
+use Rattle.jx_plan.specs.Planned.{HasPlanCause, MakesLayers, layers_of_rule}
+use Rattle.jx_layers.specs.Layers.{written_by}
+use Rattle.jx_generate.specs.OneLayer.{entry_of_layers}
+use Rattle.jx_tier2_writer.specs.Ready.{AreShort}
+use Rattle.jx_tier2_writer.specs.TileParts.{AreTilePartsOf}
 use Rattle.jx_reduce.specs.Unreducible.{first_choice}
 use Rattle.jx_generate.specs.Headers.{AreSizes}
 use Rattle.jx_generate.specs.Made.{body_made}
@@ -22,7 +33,7 @@ use Rattle.jx_generate.specs.Plain.{IsPlain}
 use Rattle.jx_generate.specs.Reading.{stream_made}
 use Rattle.jx_cli.specs.MakeWords.{Make, MayBeMade}
 use Rattle.jx_transcode.specs.Aims.{Aim, MayBeAimed, rule_in}
-use Rattle.jx_transcode.specs.MadeVerdict.{HasNoRule}
+use Rattle.jx_transcode.specs.MadeVerdict.{HasNoRule, MakesOneLayer}
 use Rattle.jx_transcode.specs.MakeRun.{aim_made, input_of, wanted_made}
 use Rattle.jx_transcode.specs.Outcome.{Verdict}
 use Rattle.jx_transcode.specs.Rewritten.{IsBad, IsIrreducible, IsTooLongAt, IsUnplanned, Reads, ReadsLeft}
@@ -31,7 +42,11 @@ use Rattle.jx_transcode.specs.declared.status.Status.TheVariants as status
 use Rattle.jx_transcode.proofs.AcceptedLemmas.{AllAccepted, made_short}
 use Rattle.jx_transcode.proofs.OneVerdictLemmas.{Laws, free_or_choice, reads_on}
 use Rattle.jx_transcode.proofs.ReducedLemmas.{WholeLaws, left_reads, planned_of}
-use Rattle.jx_transcode.proofs.PlannedMade.{MadeLaws, never_wrong, only_rule}
+use Rattle.jx_transcode.proofs.PlannedMade.{IsSent, MadeLaws, headers_geometry, never_wrong, one_entry, only_rule}
+use Rattle.jx_transcode.proofs.ShortMade.{ShortLaws, made_short as parts_short}
+
+abbrev seven : ℕ
+seven = 7
 
 choice_number : (number place : ℕ) → unplanned.Choice number place ≡ unplanned.Choice 6 0 → number ≡ 6
 choice_number number place e = cc
@@ -116,3 +131,50 @@ module _ (laws : Laws) (law : AllAccepted) (made_laws : MadeLaws) (whole_laws : 
   no_block number verdict =
       let bad : IsBad aim (input_of m) number = verdict.1 in
       right bad.blocks number (slice_get bad.blocks number) (plain bad.stream bad.blocks small (reads_of bad.stream bad.blocks small bad.reads)) refl bad.is.wrong
+
+  -- choice 7: in one layer no tile-part is too long
+  module _ (short : ShortLaws) where
+    abbrev AreParts : Stream → ℕ → ℕ → Rule → List Block → List TilePart → Type 0
+    AreParts s layers t r blocks parts = AreTilePartsOf wanted_made.marks (headers_with wanted_made layers s) (written_by wanted_made.style r layers blocks) t parts
+
+    in_order : (g : Geometry) (names : List PacketName) → IsSent g 1 names → IsOrder g 1 (entry_of_layers 1 ∷ []) 1 names
+    in_order g names is = (is.k, is.none, is.sends)
+
+    short_by : (r : Rule) (blocks : List Block) (parts : List TilePart) → All IsPlain blocks → All IsSound blocks → AreParts made 1 0 r blocks parts → AreShort parts
+    short_by r blocks parts plain sound are =
+        let P : Geometry → Type 0 = λ g. IsSent g 1 are.names in
+        let sent : IsSent (geometry made 0) 1 are.names =
+        subst P (headers_geometry m.width m.height (length (body_made m.seed m.width m.height)) 1) (one_entry m.width m.height (length (body_made m.seed m.width m.height)) 1 are.names are.order) in
+        subst (λ (ps : List TilePart). AreShort ps) (sym are.are)
+        (parts_short short m.width m.height (length (body_made m.seed m.width m.height)) r blocks are.names sizes plain sound (in_order (geometry made 0) are.names sent))
+
+    one_layer : (o : Option Rule) (r : Rule) (facts : StreamFacts) → o ≡ Some r → IfSome o (λ q. layers_by q facts ≡ 1) → layers_by r facts ≡ 1
+    one_layer o r facts e h = subst (λ (x : Option Rule). IfSome x (λ q. layers_by q facts ≡ 1)) e h
+
+    never_long : (place : ℕ) → MakesOneLayer aim → IsTooLongAt aim (input_of m) place → ⊥
+    never_long place one long =
+        let reads : Reads (input_of m) long.stream long.blocks = reads_of long.stream long.blocks small long.reads in
+        let same : long.stream ≡ made = same_stream long.stream long.blocks small reads in
+        let is : MayBePlanned made long.blocks = may_be_planned long.stream long.blocks small reads in
+        let layers : layers_of_rule long.can.by long.stream long.blocks ≡ 1 =
+        one_layer (rule_in aim long.stream long.blocks) long.can.by (facts_of long.stream long.blocks) long.can.is (one (facts_of long.stream long.blocks)) in
+        let tiles : tile_number long.stream.siz ≡ 1 =
+        ap (λ (s : Stream). tile_number s.siz) same ∙ made_laws.tiles m.width m.height (length (body_made m.seed m.width m.height)) sizes in
+        let first : place ≡ 0 = omega (arith, long.inside, tiles) in
+        let parts : List TilePart = long.is.parts in
+        let by_stream : AreParts made (layers_of_rule long.can.by long.stream long.blocks) place long.can.by long.blocks parts =
+        subst (λ (s : Stream). AreParts s (layers_of_rule long.can.by long.stream long.blocks) place long.can.by long.blocks parts) same long.is.are in
+        let by_layers : AreParts made 1 place long.can.by long.blocks parts = subst (λ (n : ℕ). AreParts made n place long.can.by long.blocks parts) layers by_stream in
+        let by_tile : AreParts made 1 0 long.can.by long.blocks parts = subst (λ (t : ℕ). AreParts made 1 t long.can.by long.blocks parts) first by_layers in
+        long.is.long (short_by long.can.by long.blocks parts (plain long.stream long.blocks small reads) is.sound by_tile)
+
+    pub no_seven : (place : ℕ) → MayBeAimed aim → MakesOneLayer aim → Verdict aim (input_of m) (status.Choice 7 place) → ⊥
+    no_seven place aimed one verdict = by verdict.1
+      where
+        by : ((seven ≡ seven) × IsTooLongAt aim (input_of m) place) ⊎ (IsUnplanned aim (input_of m) (unplanned.Choice 7 place) ⊎ IsIrreducible 0 (input_of m) 7 place) → ⊥
+        by (inl long) = never_long place one long.1
+        by (inr (inr is)) = never_irreducible 7 place small is
+        by (inr (inl is)) =
+            let lacks = without_rule (unplanned.Choice 7 place) small aimed (λ e. cc) is in
+            let six : seven ≡ 6 = choice_number seven place lacks.1 in
+            omega arith

@@ -137,20 +137,20 @@ by_resolution : (g : Geometry) (p q : PacketName) → ComesBefore g (order_of 2)
 by_resolution g p q (inl lt) = omega (arith, lt)
 by_resolution g p q (inr more) = omega (arith, more.0)
 
-headers_geometry : (w h size layers : ℕ) → geometry (headers_with wanted_made layers (stream_made w h size)) 0 ≡ geometry (stream_made w h size) 0
+pub headers_geometry : (w h size layers : ℕ) → geometry (headers_with wanted_made layers (stream_made w h size)) 0 ≡ geometry (stream_made w h size) 0
 unfolding shapes_in stream_written stream_made
 headers_geometry w h size layers = refl
 
 -- the one entry of the headers that are written
-abbrev entry_written : ℕ → Progression
+abbrev pub entry_written : ℕ → Progression
 entry_written layers = record { rs = 0; cs = 0; lye = layers; re = 33; ce = 0; order = 2 }
 
-record IsSent (g : Geometry) (layers : ℕ) (names : List PacketName) : Type 0 where
-  k : ℕ
-  none : take k names ≡ []
-  sends : Sends g layers (entry_written layers) (take k names) (drop k names)
+pub record IsSent (g : Geometry) (layers : ℕ) (names : List PacketName) : Type 0 where
+  pub k : ℕ
+  pub none : take k names ≡ []
+  pub sends : Sends g layers (entry_written layers) (take k names) (drop k names)
 
-one_entry : (w h size layers : ℕ) (names : List PacketName) → IsListOf (headers_with wanted_made layers (stream_made w h size)) 0 names
+pub one_entry : (w h size layers : ℕ) (names : List PacketName) → IsListOf (headers_with wanted_made layers (stream_made w h size)) 0 names
     → IsSent (geometry (headers_with wanted_made layers (stream_made w h size)) 0) layers names
 unfolding stream_written stream_made
 one_entry w h size layers names is = record { k = is.0; none = is.1; sends = is.2 }
@@ -269,9 +269,12 @@ block_right width height c segments n none = passes_right c n 0 (at_start width 
 plain_symbols : (b : Block) → b.style.bits ≡ 0 → has_symbols b.style.bits ≡ false
 plain_symbols b e = rw e refl
 
+pub right_in : (b : Block) → IsPlain b → wrong_in b ≡ None
+right_in b is = block_right _ _ _ (own_segments b) b.passes (plain_symbols b is.style)
+
 pub never_wrong : (asked : Option Style) (b : Block) → IsPlain b → is_wrong asked b ≡ true → ⊥
 never_wrong asked b is wrong =
-    let right : wrong_in b ≡ None = block_right _ _ _ (own_segments b) b.passes (plain_symbols b is.style) in
+    let right : wrong_in b ≡ None = right_in b is in
     absurd (by (is_some (style_for asked b)) (rw right at wrong))
   where
     by : (t : Bool) → (t && false) ≡ true → ⊥

@@ -24,13 +24,17 @@ ghost use Rattle.jx_tile.specs.Totals.{totals_fault};
 ghost use Rattle.jx_transcode.specs.Rewritten.{IsKept, IsRewritten, Reads, ReadsLeft};
 ghost use Rattle.jx_transcode.specs.SameRun.{HasCodestream, SameVerdict, fewer_difference};
 ghost use Rattle.jx_transcode.specs.TranscodeRun.{EndsBare};
-ghost use Rattle.jx_transcode.specs.MadeVerdict.{HasNoRule};
+ghost use Rattle.jx_transcode.specs.MadeVerdict.{HasNoRule, MakesOneLayer};
 ghost use Rattle.jx_transcode.specs.MakeRun.{aim_made, input_of};
 ghost use Rattle.jx_transcode.specs.Outcome.{Verdict};
 
+use jx_codeblock::laws::{coded_anew_is_sound, new_bytes_with_bypass, nothing_of_wrong_symbols};
 use jx_codestream::laws::{one_first, one_stream, violated_or_spelled};
-use jx_generate::laws::{made_blocks_are_plain, made_geometry, made_is_short, made_is_well_formed};
+use jx_generate::laws::{
+    made_blocks_are_plain, made_geometry, made_in_one_layer, made_is_short, made_is_well_formed,
+};
 use jx_jp2::laws::{one_codestream, one_tree, some_codestream, some_tree};
+use jx_layers::laws::{blocks_are_written, jobs_have_these_ends};
 use jx_plan::laws::{gathered_may_be_planned, groups_are_cut, kept_precincts_fit, one_answer};
 use jx_reduce::laws::{left_means, whole_stays};
 use jx_tier2_reader::laws::{never_both, one_gathering, one_of_both, one_violation};
@@ -191,18 +195,27 @@ pub fn made_is_accepted()
 }
 
 /// A generated codestream, with the options of `make` and planners that make 1 to 65,535 layers: no limit is passed, no code-block is wrong, and
-/// no choice is in the way but choice 7 and, where there is no rule of layers, choice 6.
+/// no choice is in the way but choice 7 and, where there is no rule of layers, choice 6. Where the planner makes one layer, as that of `one`
+/// does, choice 7 isn't either.
 pub fn made_is_planned()
     ensures limits { (rule : List ℕ → StreamFacts → Option Rule) (m : Make) (number found : ℕ) → MayBeMade m → MayBeAimed (aim_made rule)
         → Verdict (aim_made rule) (input_of m) (status.Limit number found) → ⊥ }
     ensures choices { (rule : List ℕ → StreamFacts → Option Rule) (m : Make) (number place : ℕ) → MayBeMade m → MayBeAimed (aim_made rule)
         → Verdict (aim_made rule) (input_of m) (status.Choice number place) → (number ≡ 7) ⊎ ((number ≡ 6) × (place ≡ 0) × HasNoRule (aim_made rule) (input_of m)) }
+    ensures short { (rule : List ℕ → StreamFacts → Option Rule) (m : Make) (place : ℕ) → MayBeMade m → MayBeAimed (aim_made rule) → MakesOneLayer (aim_made rule)
+        → Verdict (aim_made rule) (input_of m) (status.Choice 7 place) → ⊥ }
     ensures blocks { (rule : List ℕ → StreamFacts → Option Rule) (m : Make) (number : ℕ) → MayBeMade m → Verdict (aim_made rule) (input_of m) (status.Block number) → ⊥ }
 {
     made_is_short();
     made_is_well_formed();
     made_blocks_are_plain();
     made_geometry();
+    made_in_one_layer();
+    blocks_are_written();
+    jobs_have_these_ends();
+    new_bytes_with_bypass();
+    coded_anew_is_sound();
+    nothing_of_wrong_symbols();
     gathered_may_be_planned();
     whole_stays();
     kept_precincts_fit();

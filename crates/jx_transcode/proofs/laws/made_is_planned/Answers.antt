@@ -1,8 +1,9 @@
 use Rattle.jx_transcode.proofs.AcceptedLemmas.{AllAccepted}
-use Rattle.jx_transcode.proofs.MadeVerdictLemmas.{no_block, no_choice, no_limit}
+use Rattle.jx_transcode.proofs.MadeVerdictLemmas.{no_block, no_choice, no_limit, no_seven}
 use Rattle.jx_transcode.proofs.OneVerdictLemmas.{Laws}
-use Rattle.jx_transcode.proofs.PlannedMade.{MadeLaws}
+use Rattle.jx_transcode.proofs.PlannedMade.{MadeLaws, right_in}
 use Rattle.jx_transcode.proofs.ReducedLemmas.{WholeLaws}
+use Rattle.jx_transcode.proofs.ShortMade.{ShortLaws}
 use Rattle.jx_transcode.proofs.laws.made_is_planned.Goals as goal
 
 made : goal.After-one_output → MadeLaws
@@ -40,6 +41,18 @@ whole c = record {
   free = c.whole_stays.ensures.free;
 }
 
+short : goal.After-one_output → ShortLaws
+short c = record {
+  order = c.made_in_one_layer.ensures.order;
+  few = c.made_in_one_layer.ensures.leaves;
+  each = c.blocks_are_written.ensures.each;
+  may = c.jobs_have_these_ends.ensures.asked;
+  short = c.new_bytes_with_bypass.ensures;
+  sound = c.coded_anew_is_sound.ensures;
+  some = c.nothing_of_wrong_symbols.ensures.right;
+  right = right_in;
+}
+
 pub returns-clause-limits : goal.returns-clause-limits
 returns-clause-limits c rule m number found may aimed = no_limit (laws c) (law c) (made c) (whole c) rule m may number found aimed
 
@@ -48,3 +61,6 @@ returns-clause-choices c rule m number place may aimed = no_choice (laws c) (law
 
 pub returns-clause-blocks : goal.returns-clause-blocks
 returns-clause-blocks c rule m number may = no_block (laws c) (law c) (made c) (whole c) rule m may number
+
+pub returns-clause-short : goal.returns-clause-short
+returns-clause-short c rule m place may aimed one = no_seven (laws c) (law c) (made c) (whole c) rule m may (short c) place aimed one
