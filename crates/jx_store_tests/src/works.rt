@@ -153,8 +153,7 @@ pub struct Wanted {
     pub made: u64,
 }
 
-/// Makes plain values. Those of the numbers below `held` are made only once so many were begun and made, or once a limit is
-/// reached.
+/// Makes plain values; those of the numbers below `held` only once so many were begun and made, or a limit is reached.
 #[derive(Drop)]
 pub struct Gated<'j> {
     pub plains: Plains<'j>,
