@@ -10,7 +10,7 @@ brings its file to the disk before it has its name, `cp` doesn't), and of `trans
 in parts of the file. Then the largest: every code-block is coded anew by four workers, `same` compares what was
 written with the file, OpenJPEG reads its headers and decodes its first and its last tile. A file of one tile is regrouped for its memory.
 
-With --ends it does nothing but tell files of 2^32 - 1 and of 2^32 bytes apart, which are sparse: the first has no SOC (rule 1), the second
+With --ends it does nothing but tell files of 2^32 - 1 and of 2^32 bytes apart, which are sparse: the first has no SOC (rule 15), the second
 passes limit 1, by `transcode`, `boxes`, `show` and `same`.
 
 FOLDER needs room for four times the largest file, and the machine memory for one and a half (for 4 GiB with --ends). Ends with 1 where an
@@ -108,7 +108,7 @@ def largest(program, source, path, tiles):
 def ends(program, path):
     """Files of 2^32 - 1 and of 2^32 bytes."""
     out = path("out.j2k")
-    for size, status, line in ((2**32 - 1, 3, "rule 1: 0"), (2**32, 4, "limit 1: 4294967296")):
+    for size, status, line in ((2**32 - 1, 3, "rule 15: 0"), (2**32, 4, "limit 1: 4294967296")):
         name = path("sparse.j2k")
         with open(name, "wb") as file:
             file.truncate(size)
