@@ -10,8 +10,8 @@ brings its file to the disk before it has its name, `cp` doesn't), and of `trans
 in parts of the file. Then the largest: every code-block is coded anew by four workers, `same` compares what was
 written with the file, OpenJPEG reads its headers and decodes its first and its last tile. A file of one tile is regrouped for its memory.
 
-With --ends it does nothing but tell files of 2^32 - 1 and of 2^32 bytes apart, which are sparse: the first has no SOC (rule 15), the second
-passes limit 1, by `transcode`, `boxes`, `show` and `same`.
+With --ends it does nothing but tell files of 2^32 - 1 and of 2^32 bytes apart, which are sparse: the first has no SOC (rule 15), and to
+`boxes` isn't JP2 (rule 36), the second passes limit 1, by `transcode`, `boxes`, `show` and `same`.
 
 FOLDER needs room for four times the largest file, and the machine memory for one and a half (for 4 GiB with --ends). Ends with 1 where an
 answer isn't as it should be. Python's standard library and Debian's `time` are needed.
@@ -108,17 +108,18 @@ def largest(program, source, path, tiles):
 def ends(program, path):
     """Files of 2^32 - 1 and of 2^32 bytes."""
     out = path("out.j2k")
-    for size, status, line in ((2**32 - 1, 3, "rule 15: 0"), (2**32, 4, "limit 1: 4294967296")):
+    for size, status, line in ((2**32 - 1, 3, "rule 15 at 0"), (2**32, 4, "limit 1: 4294967296")):
         name = path("sparse.j2k")
         with open(name, "wb") as file:
             file.truncate(size)
         for words in (["transcode", name, out], ["boxes", name], ["show", name], ["same", name, name]):
-            wanted = 1 if words[0] == "boxes" and status == 3 else status
+            # to `boxes` the first isn't JP2
+            wanted = (status, "rule 36 at 0" if words[0] == "boxes" and status == 3 else line)
             ran = subprocess.run([program, *words, *LIMIT], capture_output=True, check=False)
-            first = ran.stdout.decode().split("\n")[0]
-            print(f"{size} bytes, {words[0]}: status {ran.returncode}, {first!r}", flush=True)
-            if words[0] != "boxes" and (ran.returncode, first) != (wanted, line):
-                sys.exit(f"wanted {wanted}, {line!r}")
+            told = (ran.returncode, ran.stdout.decode().split("\n")[0])
+            print(f"{size} bytes, {words[0]}: status {told[0]}, {told[1]!r}", flush=True)
+            if told != wanted:
+                sys.exit(f"wanted {wanted}")
             if os.path.exists(out):
                 sys.exit("a file was written")
         os.remove(name)
