@@ -1,5 +1,6 @@
 -- Definitions that several crates cite.
 pub mod Bands
+pub mod HeldPieces
 pub mod Joined
 pub mod Limits
 pub mod Markers

@@ -1,11 +1,12 @@
 //! Code-blocks with their coded bytes.
 
-ghost use Rattle.std.specs.Prelude.{◌≡◌, ◌++◌, ◌∷◌, [], length, map, OnOk, OnErr};
+ghost use Rattle.std.specs.Prelude.{◌≡◌, ◌++◌, ◌∷◌, [], length, map, IfOk, OnOk, OnErr};
 ghost use Rattle.jx_base.specs.Pieces.{value_of};
 
 use crate::{BlockName, NoMemory, Rect, Style};
 use std::alloc::Global;
 use std::marker::Model;
+use std::slice::from_ref;
 
 /// What one packet has of a code-block within one segment (T.800 B.10.7).
 #[derive(Clone, Copy, Debug)]
@@ -20,19 +21,28 @@ pub struct Piece<'a> {
     pub bytes: &'a [u8],
 }
 
+/// Where the pieces of a code-block stand. Most code-blocks of most files have one, which then takes no memory of its own.
+#[derive(Drop)]
+enum Held<'a> {
+    None(Global),
+    One(Piece<'a>, Global),
+    Many(Vec<Piece<'a>>),
+}
+
 /// Pieces in their order, which contracts see as a list of layers, passes and bytes.
 #[derive(Drop)]
 pub struct Pieces<'a> {
-    items: Vec<Piece<'a>>,
+    held: Held<'a>,
 }
 
 impl<'a> Model for Pieces<'a> {
     ghost use Rattle.std.specs.Prelude.{List, map};
     ghost use Rattle.jx_base.specs.Pieces.{PieceValue, value_of};
+    ghost use Rattle.jx_base.specs.HeldPieces.{pieces_held};
 
     ghost Value = { List PieceValue };
 
-    ghost view = { λ p. map value_of p.items.items };
+    ghost view = { λ p. map value_of (pieces_held p.held) };
 }
 
 impl<'a> Pieces<'a> {
@@ -41,7 +51,7 @@ impl<'a> Pieces<'a> {
         ensures { result ≡ [] }
     {
         Pieces {
-            items: Vec::new(alloc),
+            held: Held::None(alloc),
         }
     }
 
@@ -49,28 +59,31 @@ impl<'a> Pieces<'a> {
     pub fn from_vec(items: Vec<Piece<'a>>) -> Pieces<'a>
         ensures { result ≡ map value_of items.entry.items }
     {
-        Pieces { items }
-    }
-
-    /// The list of the pieces. It takes no memory.
-    pub fn into_vec(self) -> Vec<Piece<'a>>
-        ensures { map value_of result.items ≡ self.entry }
-    {
-        self.items
+        Pieces {
+            held: Held::Many(items),
+        }
     }
 
     /// The pieces.
     pub fn as_slice(&self) -> &[Piece<'a>]
         ensures { map value_of result.now ≡ self.now }
     {
-        &self.items
+        match &self.held {
+            Held::None(_) => &[],
+            Held::One(piece, _) => from_ref(piece),
+            Held::Many(items) => items,
+        }
     }
 
     /// How many there are.
     pub fn len(&self) -> usize
         ensures { result ≡ length self.now }
     {
-        self.items.len()
+        match &self.held {
+            Held::None(_) => 0,
+            Held::One(_, _) => 1,
+            Held::Many(items) => items.len(),
+        }
     }
 
     /// Appends a piece. After an `Err` they are as before.
@@ -78,9 +91,27 @@ impl<'a> Pieces<'a> {
         ensures ok { OnOk result (self.new ≡ self.old ++ value_of piece.entry ∷ []) }
         ensures err { OnErr result (self.new ≡ self.old) }
     {
-        self.items.push(piece)?;
+        if let Held::Many(items) = &mut self.held {
+            items.push(piece)?;
+            return Ok(());
+        }
+        self.held = match &self.held {
+            Held::None(alloc) => Held::One(piece, *alloc),
+            Held::One(first, alloc) => Held::Many(two(*alloc, *first, piece)?),
+            Held::Many(_) => unreachable!(),
+        };
         Ok(())
     }
+}
+
+/// A list of two pieces.
+fn two<'a>(alloc: Global, first: Piece<'a>, second: Piece<'a>) -> Result<Vec<Piece<'a>>, NoMemory>
+    ensures { IfOk result (λ v. v.items ≡ first.entry ∷ second.entry ∷ []) }
+{
+    let mut items = Vec::new(alloc);
+    items.push(first)?;
+    items.push(second)?;
+    Ok(items)
 }
 
 /// A code-block of a codestream, with its coded passes (T.800 B.7 and B.10).
@@ -106,13 +137,16 @@ pub struct Block<'a> {
 mod tests {
     use super::*;
 
-    // Pieces come out in the order in which they were put in.
+    // Pieces come out in the order in which they were put in, the first alone and among others.
     #[test]
     fn in_order(rt: HostRuntime) {
-        let bytes = [1, 2, 3];
-        let (front, rest) = bytes.split_at(1);
+        let bytes = [1, 2, 3, 4, 5, 6];
+        let (one, behind) = bytes.split_at(1);
+        let (two, three) = behind.split_at(2);
         let mut pieces = Pieces::new(rt.alloc());
-        for (first, bytes) in [(0, front), (1, rest)] {
+        assert_eq!(rt; pieces.len(), 0);
+        assert!(rt; pieces.as_slice().is_empty());
+        for (first, bytes) in [(0, one), (1, two), (2, three)] {
             let piece = Piece {
                 layer: first,
                 first,
@@ -120,8 +154,8 @@ mod tests {
                 bytes,
             };
             assert!(rt; pieces.push(piece).is_ok());
+            assert_eq!(rt; pieces.len(), usize::from(first) + 1);
         }
-        assert_eq!(rt; pieces.len(), 2);
         for piece in pieces.as_slice() {
             assert_eq!(rt; piece.first, piece.layer);
             assert_eq!(rt; piece.bytes.len(), usize::from(piece.first) + 1);

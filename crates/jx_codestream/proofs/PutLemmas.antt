@@ -1,5 +1,5 @@
 -- The shapes of a tile's components by a COD or those of the main header, then those that its header names.
-use Rattle.std.proofs.Common.{◌≡◌, ◌∙◌, ◌<◌, ◌≤◌, ◌+◌, ◌==◌, ℕ, suc, true, false, arith, add-one, ap, drop, sym, refl, subst, List, [], ◌∷◌, length, map, get_or, Option, Some, None, inl, inr}
+use Rattle.std.proofs.Common.{◌≡◌, ◌∙◌, ◌<◌, ◌≤◌, ◌+◌, ℕ, suc, false, arith, add-one, ap, drop, sym, refl, subst, List, [], ◌∷◌, length, map, get_or, Some, None, inl, inr}
 use Rattle.std.specs.List.{range_with_len}
 use Rattle.std.proofs.Math.ListN.{set}
 use Rattle.std.proofs.Math.Seq.{drop-cons}
@@ -12,7 +12,7 @@ use Rattle.jx_geom.specs.declared.shape.CompShape.{CompShape}
 use Rattle.jx_geom.specs.Geometry.{no_shape}
 use Rattle.jx_codestream.specs.Headers.{cod_slot}
 use Rattle.jx_codestream.specs.Tiles.{in_slot}
-use Rattle.jx_codestream.specs.Index.{comp_named, has_named, is_comp}
+use Rattle.jx_codestream.specs.Index.{comp_named, has_named}
 use Rattle.jx_codestream.specs.Params.{shape_in, shape_of, shape_or}
 use Rattle.jx_codestream.specs.Shapes.{HasShapes, comp_shape, divided, no_size, shapes_in, sized}
 use Rattle.jx_codestream.specs.TileHeaders.{MainHeaders, TileHeaders, with_own}

@@ -1,5 +1,5 @@
 -- The packets of one layer in the order RPCL: resolution by resolution, in each component by component; and how many code-blocks each has.
-use Rattle.std.proofs.Common.{◌≡◌, ◌∙◌, ℕ, ◌≤◌, ◌<◌, List, [], ◌∷◌, refl, sym, ap, subst, arith, inl, inr}
+use Rattle.std.proofs.Common.{◌≡◌, ◌∙◌, ℕ, ◌≤◌, ◌<◌, [], ◌∷◌, refl, sym, ap, subst, arith, inl, inr}
 use Rattle.std.specs.List.{AllPairs, Contains}
 use Rattle.std.proofs.lemmas.List.Elements.{Contains-get_or}
 use Rattle.jx_base.proofs.Joined.{joined_from, joined_pairs}
@@ -10,7 +10,7 @@ use Rattle.jx_base.specs.Places.{column_at, row_at}
 use Rattle.jx_geom.specs.Rects.{precinct_cells, precinct_column_point, precinct_row_point}
 use Rattle.jx_progression.specs.declared.names.PacketName.{PacketName}
 use Rattle.jx_progression.specs.Orders.{ComesBefore, order_of}
-use Rattle.jx_progression.specs.Packets.{Covers, IsOrder, IsPacketName, Sends}
+use Rattle.jx_progression.specs.Packets.{Covers, IsOrder, IsPacketName}
 use Rattle.jx_progression.specs.Steps.{name_of}
 use Rattle.jx_progression.proofs.OrderLemmas.{same_fields}
 use Rattle.jx_generate.specs.Headers.{AreSizes, geometry_made}

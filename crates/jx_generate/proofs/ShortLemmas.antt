@@ -1,7 +1,7 @@
 -- A made file has at most 2^28 bytes: 216 packets, of which each has at most 3,072 code-blocks with at most 146 bytes of header and 92 coded
 -- bytes for each.
 use Rattle.std.proofs.Common.{◌≡◌, ◌∙◌, ℕ, zero, suc, ◌+◌, ◌-◌, ◌*◌, ◌^◌, ◌≤◌, ◌<◌, List, [], ◌∷◌, ◌++◌, length, map, refl, sym, ap, subst, arith, inl, inr}
-use Rattle.std.specs.List.{AllByRecursion, flat_map, range_with_len}
+use Rattle.std.specs.List.{AllByRecursion, range_with_len}
 use Rattle.std.proofs.lemmas.Bool.{cases_eq, cases_lt, eq-eqb, ne_eqb}
 use Rattle.std.proofs.lemmas.List.{length-append}
 use Rattle.std.proofs.lemmas.List.FromFn.{length-map-range_with_len}
@@ -29,13 +29,13 @@ use Rattle.jx_packet_header.specs.declared.BandCells.{BandCells}
 use Rattle.jx_packet_header.specs.declared.HeaderPart.{HeaderPart}
 use Rattle.jx_packet_header.specs.Written.{Leafed, parts_in}
 use Rattle.jx_tier2_reader.specs.BlockOf.{pieces_at}
-use Rattle.jx_generate.specs.Drawn.{drawn_at, first_pass, first_state, layer_pieces, pass_count, passes_in, past_passes, piece_in, state_before}
+use Rattle.jx_generate.specs.Drawn.{drawn_at, first_pass, first_state, layer_pieces, pass_count, passes_in, past_passes, piece_in}
 use Rattle.jx_generate.specs.Headers.{AreSizes, canvas_made, geometry_made, shape_made}
 use Rattle.jx_generate.specs.Made.{bands_made, body_made, data_made, drawn_layer_bytes, drawn_leaf_bytes, header_made, layer_made, leaf_made, leaf_of_drawn, leaves_made, packet_made, resolution_made}
 use Rattle.jx_generate.specs.Made.{file_made}
 use Rattle.jx_generate.specs.Making.{pieces_bytes}
 use Rattle.jx_generate.proofs.DrawnFits.{HasFew, count_few, first_next, fit_drawn, over_layers, passes_short}
-use Rattle.jx_generate.proofs.GeometryLemmas.{IsSmall, IsWhole, IsWholeRect, block_across_6, block_down_6, component_whole, geometry_in_range, precinct_there, shape_at, whole_made}
+use Rattle.jx_generate.proofs.GeometryLemmas.{IsSmall, IsWholeRect, block_across_6, block_down_6, component_whole, geometry_in_range, precinct_there, shape_at, whole_made}
 use Rattle.jx_generate.proofs.HeaderBits.{AreOf13, HaveFew, header_few}
 use Rattle.jx_generate.proofs.PrecinctLemmas.{all_13, cells_13}
 use Rattle.jx_generate.proofs.WellLemmas.{body_few}

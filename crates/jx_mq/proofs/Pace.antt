@@ -1,11 +1,11 @@
 -- How many bytes decisions make: six shifts for each, beside what those before them have spared.
-use Rattle.std.proofs.Common.{◌≡◌, ◌<◌, ◌≤◌, ◌+◌, ◌-◌, ◌*◌, ◌/◌, ◌^◌, ℕ, zero, suc, Bool, true, false, not, List, [], ◌∷◌, ◌&&◌, length, get_or, refl, ap, sym, subst, ◌∙◌, arith, inl, inr, leb, if◌then◌else◌}
+use Rattle.std.proofs.Common.{◌≡◌, ◌<◌, ◌≤◌, ◌+◌, ◌-◌, ◌*◌, ◌/◌, ◌^◌, ℕ, zero, suc, Bool, true, false, List, [], ◌∷◌, ◌&&◌, length, get_or, refl, subst, arith, inl, inr, leb}
 use Rattle.std.specs.Prelude.{slice_index_or, slice_set}
 use Rattle.std.proofs.lemmas.Bool.{and_parts, cases_lt, le-leb, lt-leb, lt-ltb, le-ltb}
 use Rattle.std.proofs.lemmas.Bool.Decides.{nat_tests}
 use Rattle.std.proofs.lemmas.Nat.{mul-le, pow_pos}
 use Rattle.std.proofs.Math.Nat.{two-pow-succ}
-use Rattle.jx_coder_specs.specs.MqTable.{MqContexts, MqRow, mq_adapted, mq_fresh, mq_moved, mq_mps, mq_row, mq_row_at, mq_row_of, mq_rows}
+use Rattle.jx_coder_specs.specs.MqTable.{MqContexts, MqRow, mq_adapted, mq_fresh, mq_row, mq_row_at, mq_row_of, mq_rows}
 use Rattle.jx_coder_specs.specs.MqWriting.{MqWriter, MqGiven, Decided, Renewed, mq_writer, mq_part, mq_renormalized, mq_shifted, mq_written, mq_wrote, mq_is_mps, mq_after_bit, mq_written_from, mq_write, mq_contexts_after}
 use Rattle.jx_mq.specs.Pace.{spared, spared_in}
 use Rattle.jx_mq.proofs.Lengths.{Few, both_few, part_few, renormalized_few, segment_most}

@@ -1,9 +1,9 @@
 -- Where a reader stands after so many places: it has looked at the bytes that have one of them.
-use Rattle.std.proofs.Common.{◌≡◌, ◌<◌, ◌≤◌, ◌+◌, ◌-◌, ◌*◌, ℕ, zero, suc, Bool, true, false, List, [], ◌∷◌, length, min, get_or, refl, ap, sym, ◌∙◌, add-one, arith, ◌⊎◌, inl, inr, if◌then◌else◌}
+use Rattle.std.proofs.Common.{◌≡◌, ◌<◌, ◌≤◌, ◌+◌, ◌-◌, ◌*◌, ℕ, zero, suc, Bool, true, false, List, [], ◌∷◌, length, min, refl, add-one, arith, ◌⊎◌, inl, inr, if◌then◌else◌}
 use Rattle.std.proofs.lemmas.Bool.{cases_lt, cases_eq, eq-eqb, ne_eqb, le-ltb}
 use Rattle.std.proofs.lemmas.Grind.{get_or_default_zero}
 use Rattle.jx_base.specs.Markers.{HasNoMarker}
-use Rattle.jx_coder_specs.specs.MqReading.{MqReader, mq_byte, mq_byte_in, mq_reader, mq_shifted_in, mq_is_low, mq_chosen}
+use Rattle.jx_coder_specs.specs.MqReading.{MqReader, mq_byte, mq_reader, mq_shifted_in, mq_is_low, mq_chosen}
 use Rattle.jx_coder_specs.specs.RawBits.{raw_width, raw_looked}
 use Rattle.jx_mq.proofs.Places.{places, places_next, looked_within, looked_all}
 use Rattle.jx_mq.proofs.Looking.{sees_in, sees_shift, looked_in, start_seen, start_looked}

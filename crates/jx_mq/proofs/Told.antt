@@ -1,11 +1,11 @@
 -- How many bytes a decoder has looked at is told by the encoder's registers and the finished bytes.
-use Rattle.std.proofs.Common.{◌≡◌, ◌<◌, ◌≤◌, ◌+◌, ◌-◌, ◌*◌, ℕ, zero, suc, Bool, true, false, List, [], ◌∷◌, ◌++◌, length, min, refl, ap, sym, ◌∙◌, arith, ltb, inl, inr, if◌then◌else◌}
+use Rattle.std.proofs.Common.{◌≡◌, ◌<◌, ◌≤◌, ◌+◌, ◌-◌, ℕ, zero, suc, Bool, true, false, List, [], ◌∷◌, ◌++◌, length, min, refl, ap, sym, ◌∙◌, arith, ltb, inl, inr, if◌then◌else◌}
 use Rattle.std.proofs.lemmas.Bool.{cases_lt}
 use Rattle.jx_base.specs.Markers.{HasNoMarker}
 use Rattle.jx_coder_specs.specs.MqTable.{MqContexts, mq_fresh, mq_row_of}
-use Rattle.jx_coder_specs.specs.MqReading.{MqReader, MqAsked, Under, mq_byte, mq_reader, mq_reads_mps, mq_shifted_in, mq_refilled, mq_chosen, mq_read, mq_after, mq_decisions_from, mq_decisions, mq_looked}
+use Rattle.jx_coder_specs.specs.MqReading.{MqReader, mq_byte, mq_reader, mq_shifted_in, mq_refilled, mq_chosen, mq_read, mq_after, mq_decisions_from, mq_decisions, mq_looked}
 use Rattle.jx_coder_specs.specs.MqWriting.{MqWriter, MqGiven, Decided, Renewed, mq_writer, mq_shifted, mq_renormalized, mq_lower, mq_upper, mq_part, mq_flushed, mq_trimmed, mq_is_mps, mq_wrote, mq_after_bit, mq_written_from, mq_write, mq_asked}
-use Rattle.jx_coder_specs.specs.RawBits.{raw_looked, raw_looked_after, looked_from}
+use Rattle.jx_coder_specs.specs.RawBits.{raw_looked, looked_from}
 use Rattle.jx_mq.specs.Coding.{AreGiven, IsCoding, IsCoder}
 use Rattle.jx_mq.specs.Fraction.{size, scale, front}
 use Rattle.jx_mq.proofs.Bounds.{shifted_coding}

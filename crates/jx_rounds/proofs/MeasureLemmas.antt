@@ -1,5 +1,5 @@
 -- The lengths of all tile-parts, and all of them held in memory.
-use Rattle.std.proofs.Common.{◌≡◌, ◌∙◌, ◌≤◌, ℕ, List, [], ap, arith, sym, subst, Option, None, Some, IfSome, refl}
+use Rattle.std.proofs.Common.{◌≡◌, ◌∙◌, ◌≤◌, ℕ, List, [], ap, arith, sym, subst, Option, Some, IfSome, refl}
 use Rattle.std.proofs.lemmas.Option.{same_Some}
 use Rattle.jx_io.specs.Causes.{Rose}
 use Rattle.jx_codestream.specs.First.{tile_number}

@@ -23,7 +23,7 @@ use std::alloc::Global;
 use std::sync::Wait;
 use std::thread::Threads;
 
-const MOST_BLOCKS: u32 = 4096;
+const ROUND_BLOCKS: u32 = 4096;
 
 /// How many code-blocks each tile of a round has, and all of them; the tile after it, and the number of that tile's first code-block.
 #[derive(Drop)]
@@ -53,7 +53,7 @@ fn put_counts(making: &Making<'_, '_>, tile: u16, each: &mut Vec<u32>) -> Result
         let count = making.blocks_in(at);
         each.push(count)?;
         all += count;
-        if all >= MOST_BLOCKS {
+        if all >= ROUND_BLOCKS {
             return Ok(all);
         }
     }
@@ -158,7 +158,7 @@ fn push_tiles<'a, 'b>(
     for at in tile..extent.tile {
         let count = extent.counts[(at - tile) as usize];
         let to = from + count as usize;
-        let laid = alone || count >= MOST_BLOCKS;
+        let laid = alone || count >= ROUND_BLOCKS;
         let end = to.min(entries.len());
         match push_packed(alloc, making, at, &entries[from..end], laid, tiles) {
             Ok(()) => {}

@@ -19,7 +19,7 @@ use std::thread;
 use std::thread::Threads;
 
 /// The most code-blocks that a thread takes at once, where there are several.
-const MOST_BLOCKS: u32 = 16;
+const SHARE_BLOCKS: u32 = 16;
 
 /// The first place of the code-blocks of a band from one on below another of which the coefficients differ. The code-blocks of the
 /// other codestream that are at hand are its own.
@@ -137,7 +137,7 @@ pub(crate) fn compare_blocks<R: Threads + Sync>(
     }
     let mut low = 0;
     while low < count {
-        let taken = (threads * MOST_BLOCKS).min(count - low);
+        let taken = (threads * SHARE_BLOCKS).min(count - low);
         let size = taken.div_ceil(threads);
         let runs = taken.div_ceil(size);
         let high = low + taken;

@@ -1,16 +1,15 @@
 -- What a written slot does to the state that the fields show.
-use Rattle.std.proofs.Common.{◌≡◌, ◌≢◌, ℕ, ◌+◌, ◌-◌, ◌%◌, ◌<◌, ◌≤◌, ◌==◌, ◌⊎◌, Bool, true, false, cond, List, [], ◌∷◌, ◌++◌, length, set, refl, sym, ap, ◌∙◌, inl, inr, arith}
+use Rattle.std.proofs.Common.{◌≡◌, ℕ, ◌+◌, ◌-◌, ◌%◌, ◌<◌, ◌≤◌, ◌==◌, Bool, true, false, cond, List, [], ◌∷◌, ◌++◌, length, set, refl, sym, ap, ◌∙◌, inr, arith}
 use Rattle.std.specs.Prelude.{Option, Some, None, slice_get}
 use Rattle.std.proofs.Math.Path.{fun_ext}
-use Rattle.std.proofs.lemmas.Bool.Decides.{nat_tests}
 use Rattle.std.proofs.lemmas.Bool.{cases_lt, eqb-true}
-use Rattle.jx_store.specs.declared.event.Event.TheVariants.{Claim, Commit, Drain}
+use Rattle.jx_store.specs.declared.event.Event.TheVariants.{Claim, Drain}
 use Rattle.jx_store_plain.specs.declared.slot.Slot.{Slot}
 use Rattle.jx_store_plain.specs.declared.slot.Slot.TheVariants.{Empty, Held, Parked}
 use Rattle.jx_store.specs.declared.event.Reply.{Reply}
-use Rattle.jx_store.specs.declared.event.Reply.TheVariants.{Claimed, Committed, Drained, Nothing}
-use Rattle.jx_store.specs.Setup.{Setup, load}
-use Rattle.jx_store.specs.Machine.{Claimant, Done, State, start, put, end, is_full, claimed, committed, drained_one, commit_by, drain_by, does}
+use Rattle.jx_store.specs.declared.event.Reply.TheVariants.{Drained}
+use Rattle.jx_store.specs.Setup.{Setup}
+use Rattle.jx_store.specs.Machine.{Claimant, Done, State, start, put, end, is_full, claimed, committed, drained_one, does}
 use Rattle.jx_store_plain.specs.Shown.{Shown, held_in, parked_in, slot_of, state_of}
 use Rattle.jx_store.proofs.Changes.{not_full, does_claim, does_drain}
 use Rattle.jx_store_plain.proofs.Windows.{slot_set, slot_next, slot_drained, slot_in, slot_out}

@@ -1,5 +1,5 @@
 -- What the core's fields show of the machine.
-use Rattle.std.specs.Prelude.{ℕ, ◌+◌, ◌-◌, ◌%◌, nat_le, nat_lt, cond, ◌&&◌, List, [], ◌∷◌, Option, Some, None, slice_get}
+use Rattle.std.specs.Prelude.{ℕ, ◌%◌, nat_le, nat_lt, cond, ◌&&◌, List, Option, Some, None, slice_get}
 use Rattle.jx_store_plain.specs.declared.slot.Slot.{Slot}
 use Rattle.jx_store_plain.specs.declared.slot.Slot.TheVariants.{Empty, Held, Parked}
 use Rattle.jx_store.specs.declared.event.Taped.{Taped}

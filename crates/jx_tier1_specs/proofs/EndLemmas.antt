@@ -1,5 +1,5 @@
 -- What a decoder of written segments has looked at by the end of each pass is told by the encoder.
-use Rattle.std.proofs.Common.{◌≡◌, ◌≤◌, ◌+◌, ◌-◌, ◌==◌, ℕ, zero, suc, Bool, true, false, ◌||◌, List, [], ◌∷◌, ◌++◌, length, min, map, take, drop, refl, sym, ap, subst, ◌∙◌, arith, inl, inr, append_assoc, if◌then◌else◌}
+use Rattle.std.proofs.Common.{◌≡◌, ◌+◌, ◌-◌, ℕ, zero, suc, Bool, true, false, ◌||◌, List, [], ◌∷◌, ◌++◌, length, min, map, drop, refl, sym, ap, subst, ◌∙◌, arith, inl, inr, append_assoc, if◌then◌else◌}
 use Rattle.std.proofs.lemmas.Bool.{cases_Bool}
 use Rattle.std.proofs.lemmas.List.{append-nil, map-append}
 use Rattle.jx_coder_specs.specs.MqTable.{MqContexts, mq_fresh, mq_row_of}
@@ -14,9 +14,9 @@ use Rattle.jx_tier1_specs.specs.Writing.{Writing, fresh_writing, wrote, segment_
 use Rattle.jx_tier1_specs.specs.declared.stand.Stand.{Stand}
 use Rattle.jx_tier1_specs.specs.Ends.{stand_of, end_in, ends_from}
 use Rattle.jx_tier1_specs.proofs.KindLemmas.{same_kind}
-use Rattle.jx_tier1_specs.proofs.WroteLemmas.{wrote_more, wrote_target, or_false}
-use Rattle.jx_tier1_specs.proofs.SegmentLemmas.{wrote_mq, wrote_bits, segment_is, contexts_is}
-use Rattle.jx_tier1_specs.proofs.GivesLemmas.{read_all, read_all_more, read_all_raw, at_reading, AreInverse, segment_contexts}
+use Rattle.jx_tier1_specs.proofs.WroteLemmas.{wrote_more, or_false}
+use Rattle.jx_tier1_specs.proofs.SegmentLemmas.{wrote_mq, wrote_bits}
+use Rattle.jx_tier1_specs.proofs.GivesLemmas.{read_all, read_all_more, read_all_raw, at_reading}
 
 -- ---- a segment
 -- what the coders' laws say of ends

@@ -1,5 +1,5 @@
 -- How many bytes of its segment a decoder has looked at by the end of each pass, told by where the encoder stood.
-use Rattle.std.specs.Prelude.{ℕ, ◌+◌, ◌-◌, Bool, ◌||◌, List, [], ◌∷◌, ◌++◌, length, map, if◌then◌else◌}
+use Rattle.std.specs.Prelude.{ℕ, ◌+◌, ◌-◌, ◌||◌, List, [], ◌∷◌, ◌++◌, length, map, if◌then◌else◌}
 use Rattle.jx_coder_specs.specs.MqWriting.{MqGiven}
 use Rattle.jx_coder_specs.specs.RawBits.{raw_write, raw_looked, looked_from}
 use Rattle.jx_base.specs.Passes.{raw_pass, end_pass}

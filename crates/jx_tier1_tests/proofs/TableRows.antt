@@ -1,5 +1,5 @@
 -- Tables D.1 to D.4, D.7 and C.2 of ITU-T T.800, whole, as values of the definitions; each list was read off the standard.
-use Rattle.std.specs.Prelude.{◌≡◌, ℕ, pos, negsuc, Bool, true, false, List, [], ◌∷◌, map}
+use Rattle.std.specs.Prelude.{◌≡◌, ℕ, pos, negsuc, true, false, List, [], ◌∷◌, map}
 use Rattle.std.proofs.Common.{refl}
 use Rattle.jx_base.specs.declared.names.Band.{Band}
 use Rattle.jx_base.specs.declared.names.Band.TheVariants.{LL, HL, LH, HH}

@@ -16,7 +16,7 @@ use Rattle.jx_packet_header.specs.declared.BandCells.{BandCells}
 use Rattle.jx_packet_header.specs.Precinct.{fresh_state}
 use Rattle.jx_codestream.specs.declared.Stream.{Stream}
 use Rattle.jx_codestream.specs.Params.{planes_at}
-use Rattle.jx_tier2_reader.specs.Blocks.{FoundPiece, own_founds, block_of, blocks_of_band, blocks_of_resolution}
+use Rattle.jx_tier2_reader.specs.Blocks.{own_founds, block_of, blocks_of_band, blocks_of_resolution}
 use Rattle.jx_tile.specs.Cells.{precinct_bands}
 use Rattle.jx_tier2_reader.specs.Fresh.{fresh_precinct}
 use Rattle.jx_codestream.specs.InRange.{StreamInRange}

@@ -1,7 +1,6 @@
 -- The code-blocks of a codestream with their pieces, and the first rule that its tile data violate or limit that it passes.
 use Rattle.std.specs.Prelude.{◌≡◌, ◌⊎◌, ◌<◌, ℕ, List, [], ◌++◌, length, None, Some}
 use Rattle.jx_base.specs.declared.pieces.Block.{Block}
-use Rattle.jx_marker.specs.RuleNumbers.{UNCOVERED}
 use Rattle.jx_progression.specs.declared.names.PacketName.{PacketName}
 use Rattle.jx_codestream.specs.declared.Stream.{Stream}
 use Rattle.jx_codestream.specs.First.{tile_number}

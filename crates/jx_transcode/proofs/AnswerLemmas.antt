@@ -1,5 +1,5 @@
 -- What becomes of an input, from what became of its plan.
-use Rattle.std.proofs.Common.{◌≡◌, ◌∙◌, ◌⊎◌, ◌<◌, ◌≤◌, ◌^◌, ℕ, Bool, true, false, List, [], ◌++◌, length, map, Option, None, Some, Result, Ok, Err, IfOk, IfErr, OnOk, refl, ap, sym, subst, arith, inl, inr, append_assoc, append-nil, if◌then◌else◌}
+use Rattle.std.proofs.Common.{◌≡◌, ◌∙◌, ◌⊎◌, ◌<◌, ◌≤◌, ℕ, Bool, false, List, [], ◌++◌, length, map, Option, None, Some, Result, Ok, Err, IfOk, IfErr, OnOk, refl, ap, sym, subst, arith, inl, inr, append_assoc, append-nil, if◌then◌else◌}
 use Rattle.std.specs.List.{All, flat_map}
 use Rattle.std.proofs.lemmas.Bool.{cases_lt}
 use Rattle.std.proofs.lemmas.Grind.{flat_map-append}

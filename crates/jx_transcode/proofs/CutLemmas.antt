@@ -1,5 +1,5 @@
 -- A front of a file is a front of a longer one.
-use Rattle.std.proofs.Common.{◌≡◌, ◌∙◌, ◌<◌, ◌≤◌, ◌+◌, ℕ, zero, suc, List, [], ◌++◌, ap, arith, inl, inr, refl, sym, subst, append_assoc, append-nil}
+use Rattle.std.proofs.Common.{◌≡◌, ◌∙◌, ◌≤◌, ◌+◌, ℕ, zero, suc, List, [], ◌++◌, ap, arith, inl, inr, sym, append_assoc, append-nil}
 use Rattle.std.proofs.lemmas.Bool.{cases_lt}
 use Rattle.jx_base.specs.Joined.{joined}
 use Rattle.jx_base.proofs.Joined.{joined_next}

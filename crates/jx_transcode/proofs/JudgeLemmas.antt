@@ -1,5 +1,5 @@
 -- What an input is judged before anything is made of it.
-use Rattle.std.proofs.Common.{◌≡◌, ◌≤◌, ◌<◌, ◌^◌, ◌-◌, min, ℕ, List, drop, length, take, arith, inl, inr, refl}
+use Rattle.std.proofs.Common.{◌≡◌, ◌≤◌, ◌-◌, min, ℕ, List, drop, length, arith, inr, refl}
 use Rattle.std.proofs.lemmas.List.{length-drop, length-take}
 use Rattle.jx_base.specs.declared.pieces.Block.{Block}
 use Rattle.jx_codestream.specs.declared.faults.StreamFault.{StreamFault}

@@ -1,5 +1,5 @@
 -- Runs of `same`.
-use Rattle.std.proofs.Common.{◌≡◌, ◌⊎◌, ◌<◌, ◌≤◌, ◌∙◌, ℕ, List, [], length, Option, Result, Ok, Err, inl, inr, refl, subst, sym, IfOk, IfSome}
+use Rattle.std.proofs.Common.{◌≡◌, ◌⊎◌, ◌∙◌, ℕ, List, [], length, Option, Result, Ok, Err, inl, inr, refl, subst, sym, IfOk, IfSome}
 use Rattle.jx_base.specs.declared.pieces.Block.{Block}
 use Rattle.jx_io.specs.Device.{Meaning, joined}
 use Rattle.jx_cli.specs.SameWords.{Pair}

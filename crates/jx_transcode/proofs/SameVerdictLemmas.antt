@@ -4,12 +4,9 @@ use Rattle.jx_base.specs.Limits.{most_bytes}
 use Rattle.jx_base.specs.declared.pieces.Block.{Block}
 use Rattle.jx_codestream.specs.declared.faults.StreamFault.TheVariants as fault
 use Rattle.jx_codestream.specs.declared.Stream.{Stream}
-use Rattle.jx_jp2.specs.declared.Boxed.{Boxed}
 use Rattle.jx_jp2.specs.Codestream.{content}
 use Rattle.jx_options.specs.Names.{no_marks}
 use Rattle.jx_options.specs.declared.RsizChoice.TheVariants as rsiz
-use Rattle.jx_plan.specs.Meaning.{meaning_of}
-use Rattle.jx_same.specs.Items.{answer_of}
 use Rattle.jx_same.specs.declared.answer.Answer.{Answer}
 use Rattle.jx_same.specs.declared.answer.Answer.TheVariants as answer
 use Rattle.jx_transcode.specs.Aims.{Aim}

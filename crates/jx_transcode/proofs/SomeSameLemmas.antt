@@ -1,5 +1,5 @@
 -- Two files have a verdict.
-use Rattle.std.proofs.Common.{◌≡◌, ◌⊎◌, ◌≤◌, ◌<◌, ◌+◌, ℕ, List, length, None, Some, inl, inr, refl, arith}
+use Rattle.std.proofs.Common.{◌⊎◌, ◌≤◌, ◌+◌, ℕ, List, length, inl, inr, refl, arith}
 use Rattle.std.proofs.lemmas.Bool.{cases_lt}
 use Rattle.jx_base.specs.Limits.{most_bytes}
 use Rattle.jx_base.specs.declared.pieces.Block.{Block}

@@ -1,7 +1,6 @@
-use Rattle.std.proofs.Common.{◌≡◌, ◌≤◌, ◌∷◌, [], List, subst, sym, arith}
+use Rattle.std.proofs.Common.{◌≤◌, ◌∷◌, [], subst, sym, arith}
 use Rattle.jx_geom.specs.Geometry.{Geometry}
 use Rattle.jx_geom.specs.Precincts.{leaves}
-use Rattle.jx_progression.specs.declared.names.PacketName.{PacketName}
 use Rattle.jx_progression.specs.Packets.{IsOrder}
 use Rattle.jx_generate.specs.Headers.{geometry_made}
 use Rattle.jx_generate.specs.OneLayer.{entry_of_layers}

@@ -19,12 +19,12 @@ overflow_add-all c =
     let inside : c.loop-at.at < tile_number c.args.making.now.stream.siz = search rules in
     omega (arith, c.blocks_in-count.ensures, block_few c.args.making.now c.loop-at.at c.tile_count-at-end.ensures.plan inside)
 
-pub returns-then-all-ge-MOST_BLOCKS : goal.returns-then-all-ge-MOST_BLOCKS
-returns-then-all-ge-MOST_BLOCKS c =
+pub returns-then-all-ge-ROUND_BLOCKS : goal.returns-then-all-ge-ROUND_BLOCKS
+returns-then-all-ge-ROUND_BLOCKS c =
     let inside : c.loop-at.at < tile_number c.args.making.now.stream.siz = search rules in
     let items : c.push.new.self.items ≡ c.loop-at.each.items ++ c.blocks_in-count.result ∷ [] = search rules in
     extent_full c.args.making.now c.args.tile c.loop-at.at c.loop-at.all c.blocks_in-count.result c.loop-at.each.items c.push.new.self.items c.loop-at.invariant.of c.loop-at.invariant.place inside
-    c.loop-at.invariant.round c.blocks_in-count.ensures items c.if-all-ge-MOST_BLOCKS.true
+    c.loop-at.invariant.round c.blocks_in-count.ensures items c.if-all-ge-ROUND_BLOCKS.true
 
 pub loop-at-preserved : goal.loop-at-preserved
 loop-at-preserved c =
@@ -37,7 +37,7 @@ loop-at-preserved c =
       place = search rules;
       round = subst (λ n. IsInRound c.args.making.now (c.loop-at.at + 1) c.args.tile (c.loop-at.all + n)) (sym count)
           (round_more c.args.making.now c.loop-at.at c.args.tile c.loop-at.all c.loop-at.invariant.round (omega (arith, count)));
-      few = c.if-all-ge-MOST_BLOCKS.false;
+      few = c.if-all-ge-ROUND_BLOCKS.false;
     }
 
 pub returns : goal.returns

@@ -1,6 +1,5 @@
 use Rattle.std.proofs.Common.{◌∙◌, arith, sym}
-use Rattle.std.proofs.lemmas.Result.{IfOk-weaker}
-use Rattle.jx_same.proofs.CellLemmas.{coded_planes, heads_from, same_decoded}
+use Rattle.jx_same.proofs.CellLemmas.{coded_planes, heads_from}
 use Rattle.jx_same.proofs.decoded.same_cells.Goals as goal
 
 pub same_flags-requires-clause-some : goal.same_flags-requires-clause-some

@@ -1,8 +1,7 @@
-use Rattle.std.proofs.Common.{◌≡◌, ◌∙◌, ap, None, Option, option_map, refl, Some, sym, subst}
-use Rattle.std.specs.List.{find}
+use Rattle.std.proofs.Common.{◌∙◌, ap, option_map, refl, sym, subst}
 use Rattle.jx_base.specs.declared.pieces.Block.{Block}
 use Rattle.jx_base.specs.Places.{InRect}
-use Rattle.jx_plan.specs.Meaning.{lies_in, sample_in}
+use Rattle.jx_plan.specs.Meaning.{sample_in}
 use Rattle.jx_same.specs.Items.{coef_value, place_of}
 use Rattle.jx_same.proofs.FindLemmas.{nothing}
 use Rattle.jx_same.proofs.ValueLemmas.{block_has, block_sound, coef_is, no_coef}

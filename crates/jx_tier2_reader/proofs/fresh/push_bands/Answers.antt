@@ -1,7 +1,7 @@
 use Rattle.std.proofs.Common.{arith, []}
 use Rattle.jx_base.specs.declared.names.Band.TheVariants.{LL}
 use Rattle.jx_tile.proofs.BandLemmas.{band_there}
-use Rattle.jx_tier2_reader.specs.Blocks.{blocks_of_band, blocks_of_resolution}
+use Rattle.jx_tier2_reader.specs.Blocks.{blocks_of_band}
 use Rattle.jx_tier2_reader.proofs.ListLemmas.{bands_first, bands_next, bands_last}
 use Rattle.jx_tier2_reader.proofs.fresh.push_bands.Goals as goal
 

@@ -1,5 +1,4 @@
 use Rattle.std.proofs.Common.{arith, inl, refl}
-use Rattle.jx_transcode.proofs.JudgeLemmas.{accepted_of, unfit_at}
 use Rattle.jx_transcode.proofs.judge.accept.Goals as goal
 
 pub returns-then-input-limit-clause-err : goal.returns-then-input-limit-clause-err

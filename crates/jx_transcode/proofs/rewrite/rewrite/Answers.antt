@@ -1,10 +1,9 @@
-use Rattle.std.proofs.Common.{◌∙◌, List, ap, arith, length, refl, subst, sym}
+use Rattle.std.proofs.Common.{List, ap, arith, length, refl, sym}
 use Rattle.jx_base.specs.declared.pieces.Block.{Block}
-use Rattle.jx_codestream.specs.declared.Stream.{Stream}
 use Rattle.jx_rounds.proofs.FrontLemmas.{planned_few}
-use Rattle.jx_transcode.specs.Rewritten.{Reads, ReadsLeft}
+use Rattle.jx_transcode.specs.Rewritten.{ReadsLeft}
 use Rattle.jx_transcode.proofs.MisfitLemmas.{untold}
-use Rattle.jx_transcode.proofs.ReducedLemmas.{WholeLaws, all_left, all_unread, all_unwritten, answered_unreduced, planned_of}
+use Rattle.jx_transcode.proofs.ReducedLemmas.{WholeLaws, all_left, all_unread, all_unwritten, answered_unreduced}
 use Rattle.jx_transcode.proofs.RefusedLemmas.{input_unread, input_unwritten, reads_of, tiles_refused}
 use Rattle.jx_transcode.proofs.rewrite.rewrite.Goals as goal
 

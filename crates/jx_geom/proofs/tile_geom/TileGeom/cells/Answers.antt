@@ -5,7 +5,6 @@ use Rattle.jx_geom.specs.Ranges.{ShapeInRange}
 use Rattle.jx_geom.specs.Rects.{block_cells}
 use Rattle.jx_geom.proofs.LawLemmas.{block_cell_places}
 use Rattle.jx_geom.proofs.CountLemmas.{blocks_limited}
-use Rattle.std.proofs.Common.{◌^◌}
 use Rattle.jx_base.specs.declared.names.Rect.{Rect}
 use Rattle.jx_base.specs.Places.{size_of}
 use Rattle.jx_geom.proofs.tile_geom.TileGeom.cells.Goals as goal

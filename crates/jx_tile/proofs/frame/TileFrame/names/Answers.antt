@@ -1,4 +1,4 @@
-use Rattle.std.proofs.Common.{◌∙◌, ◌≤◌, ℕ, ap, sym, subst, List, Err, All}
+use Rattle.std.proofs.Common.{◌∙◌, ◌≤◌, ap, sym, subst, List, Err, All}
 use Rattle.jx_marker.specs.declared.Progression.{Progression}
 use Rattle.jx_progression.specs.Packets.{IsPacketName}
 use Rattle.jx_codestream.specs.declared.Tile.{Tile}
