@@ -15,10 +15,11 @@ ghost use Rattle.jx_rounds.specs.Sent.{sent_of};
 use crate::halt::Halt;
 use crate::making::Making;
 use crate::packed::Packed;
+use jx_base::NoMemory;
 use jx_codeblock::Recoded;
 use jx_codeblock::laws::{written_is_sound, wrong_is_nothing};
 use jx_store::{Entry, Named};
-use jx_tier2_writer::{AssembleFault, assemble_tile_with, pack_tile};
+use jx_tier2_writer::{AssembleFault, TileOut, pack_tile, whole_parts};
 use std::alloc::Global;
 
 /// The number of a block of which nothing was made.
@@ -45,6 +46,34 @@ fn first_unmade(entries: &[Entry<Recoded<'_>>]) -> Option<u32>
     None
 }
 
+/// From so many bytes on a tile-part waits without its coded bytes: what its tile has beside them takes less, and they go through one
+/// buffer then.
+const LONG_PART: u32 = 65_536;
+
+/// Whether one of the tile-parts is long.
+fn has_long_part(out: &TileOut<'_, '_>) -> bool {
+    for part in 0..out.parts() {
+        if out.size(part) >= LONG_PART {
+            return true;
+        }
+    }
+    false
+}
+
+/// A tile that is put together but for its coded bytes, as it waits for its round: so where that is asked, or a tile-part is long.
+fn settled<'a, 'b>(
+    alloc: Global,
+    out: TileOut<'a, 'b>,
+    laid: bool,
+) -> Result<Packed<'a, 'b>, NoMemory>
+    ensures { IfOk result (λ packed. map concat packed ≡ map concat out) }
+{
+    if laid || has_long_part(&out) {
+        return Ok(Packed::laid(out));
+    }
+    Ok(Packed::whole(whole_parts(alloc, &out)?))
+}
+
 /// A tile of which all code-blocks are made, put together; where it is asked but for its coded bytes.
 fn pack_made<'a, 'b>(
     alloc: Global,
@@ -59,15 +88,15 @@ fn pack_made<'a, 'b>(
     ensures parts { IfOk result (λ out. (blocks : List Block) → StandIn blocks making.now tile (made_in entries.now) → IsTile making.now blocks tile most_of_part (map concat out)) }
     ensures long { result ≡ Err AssembleFault.TooLong → (blocks : List Block) → StandIn blocks making.now tile (made_in entries.now) → IsTooLong making.now blocks tile most_of_part }
 {
-    let plan = making.plan();
-    if laid {
-        return match pack_tile(alloc, plan, making.written(), tile, entries, u32::MAX) {
-            Ok(out) => Ok(Packed::laid(out)),
-            Err(fault) => Err(fault),
-        };
-    }
-    match assemble_tile_with(alloc, plan, making.written(), tile, entries, u32::MAX) {
-        Ok(parts) => Ok(Packed::whole(parts)),
+    match pack_tile(
+        alloc,
+        making.plan(),
+        making.written(),
+        tile,
+        entries,
+        u32::MAX,
+    ) {
+        Ok(out) => Ok(settled(alloc, out, laid)?),
         Err(fault) => Err(fault),
     }
 }

@@ -19,8 +19,12 @@ fn whole_part(alloc: Global, out: &TileOut<'_, '_>, part: usize) -> Result<Vec<u
     Ok(bytes)
 }
 
-/// All tile-parts.
-pub(crate) fn whole_parts(alloc: Global, out: &TileOut<'_, '_>) -> Result<Vec<Vec<u8>>, NoMemory>
+/// All tile-parts of a tile. Each coded byte is copied once.
+///
+/// # Errors
+///
+/// `NoMemory` where memory is refused.
+pub fn whole_parts(alloc: Global, out: &TileOut<'_, '_>) -> Result<Vec<Vec<u8>>, NoMemory>
     ensures { IfOk result (λ parts. map (λ v. v.items) parts.items ≡ map concat out.now) }
 {
     let mut parts = Vec::new(alloc);
