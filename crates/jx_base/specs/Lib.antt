@@ -1,6 +1,5 @@
 -- Definitions that several crates cite.
 pub mod Bands
-pub mod HeldPieces
 pub mod Joined
 pub mod Limits
 pub mod Markers
@@ -9,5 +8,6 @@ pub mod OrderNumbers
 pub mod Places
 pub mod Passes
 pub mod Pieces
+pub mod ShortLists
 pub mod Sound
 pub mod Texts

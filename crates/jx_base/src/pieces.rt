@@ -1,12 +1,11 @@
 //! Code-blocks with their coded bytes.
 
-ghost use Rattle.std.specs.Prelude.{◌≡◌, ◌++◌, ◌∷◌, [], length, map, IfOk, OnOk, OnErr};
+ghost use Rattle.std.specs.Prelude.{◌≡◌, ◌++◌, ◌∷◌, [], length, map, OnOk, OnErr};
 ghost use Rattle.jx_base.specs.Pieces.{value_of};
 
-use crate::{BlockName, NoMemory, Rect, Style};
+use crate::{BlockName, NoMemory, Rect, ShortList, Style};
 use std::alloc::Global;
 use std::marker::Model;
-use std::slice::from_ref;
 
 /// What one packet has of a code-block within one segment (T.800 B.10.7).
 #[derive(Clone, Copy, Debug)]
@@ -21,28 +20,20 @@ pub struct Piece<'a> {
     pub bytes: &'a [u8],
 }
 
-/// Where the pieces of a code-block stand. Most code-blocks of most files have one, which then takes no memory of its own.
-#[derive(Drop)]
-enum Held<'a> {
-    None(Global),
-    One(Piece<'a>, Global),
-    Many(Vec<Piece<'a>>),
-}
-
-/// Pieces in their order, which contracts see as a list of layers, passes and bytes.
+/// Pieces in their order, which contracts see as a list of layers, passes and bytes. A code-block's only piece, which is what most
+/// have, takes no memory of its own.
 #[derive(Drop)]
 pub struct Pieces<'a> {
-    held: Held<'a>,
+    items: ShortList<Piece<'a>>,
 }
 
 impl<'a> Model for Pieces<'a> {
     ghost use Rattle.std.specs.Prelude.{List, map};
     ghost use Rattle.jx_base.specs.Pieces.{PieceValue, value_of};
-    ghost use Rattle.jx_base.specs.HeldPieces.{pieces_held};
 
     ghost Value = { List PieceValue };
 
-    ghost view = { λ p. map value_of (pieces_held p.held) };
+    ghost view = { λ p. map value_of p.items };
 }
 
 impl<'a> Pieces<'a> {
@@ -51,7 +42,7 @@ impl<'a> Pieces<'a> {
         ensures { result ≡ [] }
     {
         Pieces {
-            held: Held::None(alloc),
+            items: ShortList::new(alloc),
         }
     }
 
@@ -60,7 +51,7 @@ impl<'a> Pieces<'a> {
         ensures { result ≡ map value_of items.entry.items }
     {
         Pieces {
-            held: Held::Many(items),
+            items: ShortList::from_vec(items),
         }
     }
 
@@ -68,22 +59,14 @@ impl<'a> Pieces<'a> {
     pub fn as_slice(&self) -> &[Piece<'a>]
         ensures { map value_of result.now ≡ self.now }
     {
-        match &self.held {
-            Held::None(_) => &[],
-            Held::One(piece, _) => from_ref(piece),
-            Held::Many(items) => items,
-        }
+        self.items.as_slice()
     }
 
     /// How many there are.
     pub fn len(&self) -> usize
         ensures { result ≡ length self.now }
     {
-        match &self.held {
-            Held::None(_) => 0,
-            Held::One(_, _) => 1,
-            Held::Many(items) => items.len(),
-        }
+        self.items.len()
     }
 
     /// Appends a piece. After an `Err` they are as before.
@@ -91,27 +74,8 @@ impl<'a> Pieces<'a> {
         ensures ok { OnOk result (self.new ≡ self.old ++ value_of piece.entry ∷ []) }
         ensures err { OnErr result (self.new ≡ self.old) }
     {
-        if let Held::Many(items) = &mut self.held {
-            items.push(piece)?;
-            return Ok(());
-        }
-        self.held = match &self.held {
-            Held::None(alloc) => Held::One(piece, *alloc),
-            Held::One(first, alloc) => Held::Many(two(*alloc, *first, piece)?),
-            Held::Many(_) => unreachable!(),
-        };
-        Ok(())
+        self.items.push(piece)
     }
-}
-
-/// A list of two pieces.
-fn two<'a>(alloc: Global, first: Piece<'a>, second: Piece<'a>) -> Result<Vec<Piece<'a>>, NoMemory>
-    ensures { IfOk result (λ v. v.items ≡ first.entry ∷ second.entry ∷ []) }
-{
-    let mut items = Vec::new(alloc);
-    items.push(first)?;
-    items.push(second)?;
-    Ok(items)
 }
 
 /// A code-block of a codestream, with its coded passes (T.800 B.7 and B.10).

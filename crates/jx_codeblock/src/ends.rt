@@ -3,14 +3,14 @@
 ghost use Rattle.std.specs.Prelude.{◌≡◌, ◌++◌, ◌∷◌, [], OnOk, OnErr};
 
 use crate::LayerEnd;
-use jx_base::NoMemory;
+use jx_base::{NoMemory, ShortList};
 use std::alloc::Global;
 use std::marker::Model;
 
-/// The layers that have passes of a block, in their order.
+/// The layers that have passes of a block, in their order. An only one takes no memory of its own.
 #[derive(Drop)]
 pub struct Ends {
-    items: Vec<LayerEnd>,
+    items: ShortList<LayerEnd>,
 }
 
 impl Model for Ends {
@@ -19,7 +19,7 @@ impl Model for Ends {
 
     ghost Value = { List LayerEnd };
 
-    ghost view = { λ e. e.items.items };
+    ghost view = { λ e. e.items };
 }
 
 impl Ends {
@@ -28,7 +28,7 @@ impl Ends {
         ensures { result ≡ [] }
     {
         Ends {
-            items: Vec::new(alloc),
+            items: ShortList::new(alloc),
         }
     }
 
@@ -36,7 +36,7 @@ impl Ends {
     pub fn as_slice(&self) -> &[LayerEnd]
         ensures { result.now ≡ self.now }
     {
-        &self.items
+        self.items.as_slice()
     }
 
     /// Appends a layer. After an `Err` they are as before.
@@ -44,7 +44,6 @@ impl Ends {
         ensures ok { OnOk result (self.new ≡ self.old ++ end ∷ []) }
         ensures err { OnErr result (self.new ≡ self.old) }
     {
-        self.items.push(end)?;
-        Ok(())
+        self.items.push(end)
     }
 }
