@@ -1,5 +1,5 @@
 -- Words of `same`, and what they ask for.
-use Rattle.std.proofs.Common.{◌≡◌, ◌≤◌, ◌∙◌, ap, sym, refl, arith, ℕ, true, false, Bool, List, [], ◌∷◌, Option, Some, codes, drop}
+use Rattle.std.proofs.Common.{◌≡◌, ◌≤◌, ◌∙◌, ap, sym, refl, arith, ℕ, true, false, Bool, List, [], ◌∷◌, ◌++◌, Option, Some, codes, drop}
 use Rattle.std.specs.Fmt.{decimal}
 use Rattle.clap.specs.Words.{App, fault_of, is_simple_and_free}
 use Rattle.clap.proofs.OnLiterals.{clap_on_literals}
