@@ -1,5 +1,5 @@
 -- Words that ask for help or the version.
-use Rattle.std.specs.Prelude.{Bool, false, ◌||◌, ◌&&◌, List, [], ◌∷◌, drop, slice_index_or, codes}
+use Rattle.std.specs.Prelude.{Bool, false, true, ◌||◌, ◌&&◌, List, [], ◌∷◌, drop, slice_index_or, codes, if◌then◌else◌}
 use Rattle.std.specs.Str.{bytes_eq}
 use Rattle.jx_messages.specs.Text.{Text}
 

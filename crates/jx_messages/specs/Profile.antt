@@ -1,5 +1,5 @@
 -- Why a profile can't be kept, in words, with what to ask instead: by the number of the condition of profile 3 that fails.
-use Rattle.std.specs.Prelude.{ℕ, ◌==◌, nat_le, codes, if◌then◌else◌}
+use Rattle.std.specs.Prelude.{ℕ, ◌==◌, nat_le, ◌++◌, codes, if◌then◌else◌}
 use Rattle.jx_messages.specs.Text.{Text}
 
 -- 1 to 6, of SIZ and of which segments there are
