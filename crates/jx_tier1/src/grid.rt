@@ -2,10 +2,12 @@
 
 ghost use Rattle.std.specs.Prelude.{◌≡◌, ◌+◌, ◌*◌, ◌<◌, ◌≤◌, length, IfOk, replicate};
 ghost use Rattle.jx_tier1_specs.specs.Cells.{Cells, zero_coef, coef_at, with_coef};
+ghost use Rattle.jx_tier1_specs.specs.Pass.{changed};
+ghost use Rattle.jx_tier1.specs.Noting.{with_more};
 
 use crate::coefs::Coefs;
 use jx_base::NoMemory;
-use jx_tier1_specs::Coef;
+use jx_tier1_specs::{Coef, Plane};
 use std::alloc::Global;
 use std::marker::Model;
 
@@ -100,6 +102,19 @@ impl FlagGrid {
         let index = y as usize * usize::from(self.width) + usize::from(x);
         if index < self.coefs.len() {
             self.coefs.set(index, coef);
+        }
+    }
+
+    /// Notes a bit of what stands in column `x` and row `y`, as `change` would.
+    #[inline(always)]
+    pub(crate) fn note(&mut self, x: u16, y: u32, plane: Plane, shift: u8, bit: bool)
+        requires shift { shift < 128 }
+        requires plane { plane.number < 74 }
+        ensures { self.new ≡ changed self.old x y (with_more plane shift bit) }
+    {
+        let index = y as usize * usize::from(self.width) + usize::from(x);
+        if index < self.coefs.len() {
+            self.coefs.note(index, plane, shift, bit);
         }
     }
 

@@ -43,25 +43,6 @@ fn number(high: bool, low: bool) -> u16
     2 * u16::from(high) + u16::from(low)
 }
 
-/// The coefficient with its bit of the plane.
-#[inline(always)]
-fn with_more(plane: Plane, shift: u8, bit: bool, coef: Coef) -> Coef
-    requires shift { shift < 128 }
-    requires plane { plane.number < 74 }
-    ensures { result ≡ with_more plane shift bit coef }
-{
-    let bits = if bit {
-        coef.bits.wrapping_add(1 << shift)
-    } else {
-        coef.bits
-    };
-    Coef {
-        negative: coef.negative,
-        bits,
-        planes: plane.number + 1,
-    }
-}
-
 /// Notes that so many places of a column from one downwards are decided to be 0.
 #[tactic(auto, using(jx_tier1_specs::proofs::RunLemmas::zeroed_more))]
 fn zero(grid: &mut FlagGrid, plane: Plane, count: u16, x: u16, y: u16)
@@ -71,8 +52,7 @@ fn zero(grid: &mut FlagGrid, plane: Plane, count: u16, x: u16, y: u16)
 {
     for i in 0..count {
         let row = u32::from(y) + u32::from(i);
-        let coef = with_more(plane, 0, false, grid.get(x, row));
-        grid.change(x, row, coef);
+        grid.note(x, row, plane, 0, false);
     }
 }
 
@@ -96,9 +76,7 @@ impl<'a> Noter<'a> {
         requires { shift < 128 }
         ensures { self.new ≡ record self.old { cells = changed self.old.cells x y (with_more self.old.plane shift bit) } }
     {
-        let row = u32::from(y);
-        let coef = with_more(self.plane, shift, bit, self.grid.get(x, row));
-        self.grid.change(x, row, coef);
+        self.grid.note(x, u32::from(y), self.plane, shift, bit);
     }
 
     /// Notes a sign, and that the places of its run above it are 0.
