@@ -1,14 +1,16 @@
 #!/usr/bin/env python3
 """Times the program on large files, beside `cp`, and says how much memory it takes.
 
-usage: bench/large.py PROGRAM [--picture PICTURE.ppm] [--most MIB] [--ends] FOLDER
+usage: bench/large.py PROGRAM [--picture PICTURE.ppm | --deep] [--most MIB] [--regroup] [--ends] FOLDER
 
-A picture (RGB, 8 bits; without one it is made as bench/regroup.py makes it) is coded without loss by Debian's opj_compress (libopenjp2-tools)
+A picture (RGB; without one it is made as bench/regroup.py makes it, 8 bits, or with --deep of 16 bits a sample, 12 of them noise, so that a
+code-block has some 4 KB) is coded without loss by Debian's opj_compress (libopenjp2-tools)
 in tiles of 256 by 256, and its tiles are repeated to pictures of 6 by 5, 16 by 16, 32 by 32, 64 by 64, 88 by 88 and 128 by 128 tiles, from
 4 MB to over 2 GiB, as far as --most goes. Of each size: medians of three runs in turn of `cp`, of `cp` and `sync` of the copy (the program
 brings its file to the disk before it has its name, `cp` doesn't), and of `transcode --order rpcl --plt`, elapsed seconds, and the most memory
 in parts of the file. Then the largest: every code-block is coded anew by four workers, `same` compares what was
-written with the file, OpenJPEG reads its headers and decodes its first and its last tile. A file of one tile is regrouped for its memory.
+written with the file, OpenJPEG reads its headers and decodes its first and its last tile (not with --regroup). A file of one tile is
+regrouped for its memory.
 
 With --ends it does nothing but tell files of 2^32 - 1 and of 2^32 bytes apart, which are sparse: the first has no SOC (rule 15), and to
 `boxes` isn't JP2 (rule 36), the second passes limit 1, by `transcode`, `boxes`, `show` and `same`.
@@ -18,6 +20,7 @@ answer isn't as it should be. Python's standard library and Debian's `time` are 
 """
 
 import os
+import random
 import re
 import statistics
 import struct
@@ -33,6 +36,22 @@ SHAPES = ((6, 5), (16, 16), (32, 32), (64, 64), (88, 88), (128, 128))
 RUNS = 3
 LIMIT = ["--limit-bytes", "4294967295"]
 SOT = 0xFF90
+
+
+def deep_picture(path):
+    """Draws a picture of 2,048 by 1,536, RGB, 16 bits: shades with noise of 12 bits."""
+    random.seed(1)
+    noise = [random.randrange(4096) for _ in range(65536)]
+    at = 0
+    with open(path, "wb") as file:
+        file.write(b"P6\n2048 1536\n65535\n")
+        for y in range(1536):
+            row = []
+            for x in range(2048):
+                for base in (x * 16 + y * 5, x * 3 + y * 20, (x + y) * 12):
+                    row.append(base + noise[at & 65535])
+                    at += 7919
+            file.write(struct.pack(f">{len(row)}H", *row))
 
 
 def tile_parts(data):
@@ -126,10 +145,9 @@ def ends(program, path):
 
 
 def main(words):
-    picture, most, only_ends = None, 1 << 40, False
-    if "--ends" in words:
-        words.remove("--ends")
-        only_ends = True
+    picture, most = None, 1 << 40
+    said = {name: name in words for name in ("--ends", "--deep", "--regroup")}
+    words = [word for word in words if word not in said]
     for name in ("--picture", "--most"):
         if name in words:
             at = words.index(name)
@@ -146,12 +164,12 @@ def main(words):
     def path(name):
         return os.path.join(folder, name)
 
-    if only_ends:
+    if said["--ends"]:
         ends(program, path)
         return
     if picture is None:
         picture = path("in.ppm")
-        made_picture(picture)
+        (deep_picture if said["--deep"] else made_picture)(picture)
     coding = ["opj_compress", "-i", picture, "-o"]
     subprocess.run([*coding, path("tiled.j2k"), "-t", f"{SIDE},{SIDE}"], stdout=subprocess.DEVNULL, check=True)
     subprocess.run([*coding, path("one.j2k")], stdout=subprocess.DEVNULL, check=True)
@@ -168,7 +186,7 @@ def main(words):
         last = wide * high
         copy, synced, regroup, kib = measured(program, path("in.j2k"), path("out.j2k"))
         print(f"{wide} by {high} tiles, {size} bytes: cp {copy:.3f} s, cp and sync {synced:.3f} s, regrouping {regroup:.3f} s, {regroup / copy:.2f} and {regroup / synced:.2f} of them, {size / regroup / 1e6:.0f} MB a second, {kib * 1024 / size:.3f} of the file in memory", flush=True)
-    if last:
+    if last and not said["--regroup"]:
         largest(program, path("in.j2k"), path, last)
 
 
