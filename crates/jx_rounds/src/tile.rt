@@ -66,7 +66,7 @@ fn settled<'a, 'b>(
     out: TileOut<'a, 'b>,
     laid: bool,
 ) -> Result<Packed<'a, 'b>, NoMemory>
-    ensures { IfOk result (λ packed. map concat packed ≡ map concat out) }
+    ensures { IfOk result (λ packed. map concat packed ≡ map concat out.entry) }
 {
     if laid || has_long_part(&out) {
         return Ok(Packed::laid(out));
