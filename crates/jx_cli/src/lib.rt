@@ -13,6 +13,7 @@ mod same;
 mod show;
 
 pub use boxes::{Boxes, read_boxes};
+use jx_base::NoMemory;
 use jx_options::{FormChoice, Options, Work};
 pub use make::{Make, read_make};
 pub use reading::read_words;
@@ -106,4 +107,15 @@ pub enum WordsFault {
     Words,
     /// There was no memory.
     NoMemory,
+}
+
+impl From<NoMemory> for WordsFault {
+    ghost use Rattle.std.specs.Prelude.{◌≡◌};
+    ghost use Rattle.jx_cli.specs.declared.WordsFault.TheVariants.{NoMemory as out_of_memory};
+
+    ghost from_gives = { λ _ fault. fault ≡ out_of_memory };
+
+    fn from(_: NoMemory) -> Self {
+        WordsFault::NoMemory
+    }
 }

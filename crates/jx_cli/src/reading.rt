@@ -216,17 +216,12 @@ fn request_by(alloc: Global, given: &Given<'_>) -> Result<Request, WordsFault>
     let Some(work) = work_by(given) else {
         return Err(WordsFault::Words);
     };
-    let precincts = match precincts_said(alloc, given.precincts) {
-        Ok(Some(precincts)) => precincts,
-        Ok(None) => return Err(WordsFault::Words),
-        Err(NoMemory) => return Err(WordsFault::NoMemory),
+    let Some(precincts) = precincts_said(alloc, given.precincts)? else {
+        return Err(WordsFault::Words);
     };
-    match made(
+    Ok(made(
         alloc, given, order, precincts, parts, style, rsiz, form, reduce, limit, work,
-    ) {
-        Ok(request) => Ok(request),
-        Err(NoMemory) => Err(WordsFault::NoMemory),
-    }
+    )?)
 }
 
 /// Whether the second word is the command's name.

@@ -17,7 +17,7 @@ use jx_layers::LayerPlanner;
 use jx_options::{Marks, Options, OrderChoice, PartChoice, PrecinctChoice, RsizChoice};
 use jx_plan::{OutStream, plan_served};
 use jx_store::Entry;
-use jx_tier2_writer::{AssembleFault, TileOut, assemble_tile, main_header, main_view, pack_tile};
+use jx_tier2_writer::{AssembleFault, TileOut, main_header, main_view, pack_tile, whole_parts};
 use std::alloc::{AllocError, Global};
 use std::test::Fail;
 
@@ -92,6 +92,40 @@ fn put_packed(
     }
 }
 
+/// The tile-parts of a tile, by its number 0, each in one buffer.
+fn whole_tile(
+    alloc: Global,
+    plan: &OutStream<'_>,
+    values: &[Entry<Recoded<'_>>],
+    most: u32,
+) -> Result<Vec<Vec<u8>>, AssembleFault>
+    requires tile { 0 < tile_number plan.now.stream.siz }
+    requires made { AreMade values.now }
+    requires values { AreValuesOf plan.now 0 (made_in values.now) }
+{
+    let main = main_view(alloc, plan)?;
+    whole_packed(alloc, plan, &main, values, most)
+}
+
+/// The same, with what is known of the main header.
+fn whole_packed(
+    alloc: Global,
+    plan: &OutStream<'_>,
+    main: &MainView<'_>,
+    values: &[Entry<Recoded<'_>>],
+    most: u32,
+) -> Result<Vec<Vec<u8>>, AssembleFault>
+    requires main { main.now ≡ record { siz = (headers_of plan.now).siz; main = (headers_of plan.now).main } }
+    requires tile { 0 < tile_number plan.now.stream.siz }
+    requires made { AreMade values.now }
+    requires values { AreValuesOf plan.now 0 (made_in values.now) }
+{
+    match pack_tile(alloc, plan, main, 0, values, most) {
+        Ok(out) => Ok(whole_parts(alloc, &out)?),
+        Err(fault) => Err(fault),
+    }
+}
+
 /// The tile-parts, SOP, EPH and PLT.
 type Asked = (PartChoice, bool, bool, bool);
 
@@ -156,7 +190,7 @@ fn is_tile(alloc: Global, plan: &OutStream<'_>, values: &[Entry<Recoded<'_>>], r
     requires made { AreMade values.now }
     requires values { AreValuesOf plan.now 0 (made_in values.now) }
 {
-    let parts = assemble_tile(alloc, plan, 0, values, row.most);
+    let parts = whole_tile(alloc, plan, values, row.most);
     let pieces = put_tile(alloc, plan, values, row.most);
     are_so(&parts, &pieces, row)
 }

@@ -46,21 +46,28 @@ fn first_unmade(entries: &[Entry<Recoded<'_>>]) -> Option<u32>
     None
 }
 
-/// From so many bytes on a tile-part waits without its coded bytes: what its tile has beside them takes less, and they go through one
-/// buffer then.
+/// A tile-part of so many bytes is long: a tile that has one may wait for its round without its coded bytes, which go through one buffer
+/// then.
 const LONG_PART: u32 = 65_536;
 
-/// Whether one of the tile-parts is long.
+/// A tile that waits without its coded bytes keeps its geometry and lists, which take up to so many bytes for each piece of its tile-parts,
+/// however few the packet has. With fewer than that for each piece its bytes are kept instead.
+const PIECE_BYTES: usize = 64;
+
+/// Whether one of the tile-parts is long, and all have so many bytes that the tile's lists take less.
 fn has_long_part(out: &TileOut<'_, '_>) -> bool {
+    let mut is_long = false;
+    let mut bytes: usize = 0;
+    let mut pieces: usize = 0;
     for part in 0..out.parts() {
-        if out.size(part) >= LONG_PART {
-            return true;
-        }
+        is_long = is_long || out.size(part) >= LONG_PART;
+        bytes = bytes.saturating_add(out.size(part) as usize);
+        pieces = pieces.saturating_add(out.pieces(part));
     }
-    false
+    is_long && bytes / PIECE_BYTES >= pieces
 }
 
-/// A tile that is put together but for its coded bytes, as it waits for its round: so where that is asked, or a tile-part is long.
+/// A tile as it waits for its round: put together but for its coded bytes where that is asked, or where they take more than all else.
 fn settled<'a, 'b>(
     alloc: Global,
     out: TileOut<'a, 'b>,

@@ -24,7 +24,7 @@ mod tile_part;
 mod whole;
 
 pub use index::{PartLength, index_bytes};
-pub use planned::{assemble_tile, assemble_tile_with, main_header, main_view, pack_tile};
+pub use planned::{main_header, main_view, pack_tile};
 pub use tile::AssembleFault;
 pub use tile_out::TileOut;
 pub use whole::whole_parts;

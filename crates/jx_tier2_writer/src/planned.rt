@@ -25,7 +25,6 @@ use crate::front::header_bytes;
 use crate::laws::{ready_is_in_range, written_is_ready};
 use crate::tile::AssembleFault;
 use crate::tile_out::TileOut;
-use crate::whole::whole_parts;
 use jx_base::NoMemory;
 use jx_codeblock::Recoded;
 use jx_codestream::{MainView, Stream};
@@ -152,56 +151,4 @@ pub fn pack_tile<'a, 'b>(
     let blocks = blocks_of(alloc, values)?;
     let headers = tile_headers(plan, tile, values);
     pack_stream(alloc, headers, main, tile, blocks, plan.marks(), most)
-}
-
-/// The tile-parts of a tile, of which `values` are the entries of its code-blocks in the order of their numbers, all made, with the view
-/// of the main header. A tile-part begins where the plan's options say, and with the tile; a tile without packets has one (ITU-T
-/// T.800, A.4.2). The time grows with the packets, with the blocks and their parts, with the segments of the tile's header, and
-/// with the tile-parts and their bytes, of which each coded one is copied once.
-///
-/// # Errors
-///
-/// `TooLong` exactly where a tile-part would have more than `most` bytes; `NoMemory` where memory is refused.
-pub fn assemble_tile_with(
-    alloc: Global,
-    plan: &OutStream<'_>,
-    main: &MainView<'_>,
-    tile: u16,
-    values: &[Entry<Recoded<'_>>],
-    most: u32,
-) -> Result<Vec<Vec<u8>>, AssembleFault>
-    requires main { main.now ≡ record { siz = (headers_of plan.now).siz; main = (headers_of plan.now).main } }
-    requires tile { tile < tile_number plan.now.stream.siz }
-    requires made { AreMade values.now }
-    requires values { AreValuesOf plan.now tile (made_in values.now) }
-    ensures parts { IfOk result (λ parts. (blocks : List Block) → StandIn blocks plan.now tile (made_in values.now) → IsTile plan.now blocks tile most (map (λ v. v.items) parts.items)) }
-    ensures long { result ≡ Err AssembleFault.TooLong → (blocks : List Block) → StandIn blocks plan.now tile (made_in values.now) → IsTooLong plan.now blocks tile most }
-{
-    let out = match pack_tile(alloc, plan, main, tile, values, most) {
-        Ok(out) => out,
-        Err(fault) => return Err(fault),
-    };
-    Ok(whole_parts(alloc, &out)?)
-}
-
-/// The same, with a view of the main header of its own, for which the time grows with the segments of that header too.
-///
-/// # Errors
-///
-/// `TooLong` exactly where a tile-part would have more than `most` bytes; `NoMemory` where memory is refused.
-pub fn assemble_tile(
-    alloc: Global,
-    plan: &OutStream<'_>,
-    tile: u16,
-    values: &[Entry<Recoded<'_>>],
-    most: u32,
-) -> Result<Vec<Vec<u8>>, AssembleFault>
-    requires tile { tile < tile_number plan.now.stream.siz }
-    requires made { AreMade values.now }
-    requires values { AreValuesOf plan.now tile (made_in values.now) }
-    ensures parts { IfOk result (λ parts. (blocks : List Block) → StandIn blocks plan.now tile (made_in values.now) → IsTile plan.now blocks tile most (map (λ v. v.items) parts.items)) }
-    ensures long { result ≡ Err AssembleFault.TooLong → (blocks : List Block) → StandIn blocks plan.now tile (made_in values.now) → IsTooLong plan.now blocks tile most }
-{
-    let main = main_view(alloc, plan)?;
-    assemble_tile_with(alloc, plan, &main, tile, values, most)
 }
