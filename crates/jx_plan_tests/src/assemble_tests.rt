@@ -58,13 +58,13 @@ fn pieces_of(alloc: Global, out: &TileOut<'_, '_>) -> Result<Pieces, NoMemory> {
     Ok(pieces)
 }
 
-/// The pieces of a tile, by its number 0.
+/// The tile-parts of a tile, by its number 0, each in one buffer, and its pieces.
 fn put_tile(
     alloc: Global,
     plan: &OutStream<'_>,
     values: &[Entry<Recoded<'_>>],
     most: u32,
-) -> Result<Pieces, AssembleFault>
+) -> Result<(Vec<Vec<u8>>, Pieces), AssembleFault>
     requires tile { 0 < tile_number plan.now.stream.siz }
     requires made { AreMade values.now }
     requires values { AreValuesOf plan.now 0 (made_in values.now) }
@@ -80,48 +80,14 @@ fn put_packed(
     main: &MainView<'_>,
     values: &[Entry<Recoded<'_>>],
     most: u32,
-) -> Result<Pieces, AssembleFault>
+) -> Result<(Vec<Vec<u8>>, Pieces), AssembleFault>
     requires main { main.now ≡ record { siz = (headers_of plan.now).siz; main = (headers_of plan.now).main } }
     requires tile { 0 < tile_number plan.now.stream.siz }
     requires made { AreMade values.now }
     requires values { AreValuesOf plan.now 0 (made_in values.now) }
 {
     match pack_tile(alloc, plan, main, 0, values, most) {
-        Ok(out) => Ok(pieces_of(alloc, &out)?),
-        Err(fault) => Err(fault),
-    }
-}
-
-/// The tile-parts of a tile, by its number 0, each in one buffer.
-fn whole_tile(
-    alloc: Global,
-    plan: &OutStream<'_>,
-    values: &[Entry<Recoded<'_>>],
-    most: u32,
-) -> Result<Vec<Vec<u8>>, AssembleFault>
-    requires tile { 0 < tile_number plan.now.stream.siz }
-    requires made { AreMade values.now }
-    requires values { AreValuesOf plan.now 0 (made_in values.now) }
-{
-    let main = main_view(alloc, plan)?;
-    whole_packed(alloc, plan, &main, values, most)
-}
-
-/// The same, with what is known of the main header.
-fn whole_packed(
-    alloc: Global,
-    plan: &OutStream<'_>,
-    main: &MainView<'_>,
-    values: &[Entry<Recoded<'_>>],
-    most: u32,
-) -> Result<Vec<Vec<u8>>, AssembleFault>
-    requires main { main.now ≡ record { siz = (headers_of plan.now).siz; main = (headers_of plan.now).main } }
-    requires tile { 0 < tile_number plan.now.stream.siz }
-    requires made { AreMade values.now }
-    requires values { AreValuesOf plan.now 0 (made_in values.now) }
-{
-    match pack_tile(alloc, plan, main, 0, values, most) {
-        Ok(out) => Ok(whole_parts(alloc, &out)?),
+        Ok(out) => Ok((whole_parts(alloc, &out)?, pieces_of(alloc, &out)?)),
         Err(fault) => Err(fault),
     }
 }
@@ -168,19 +134,15 @@ fn are_whole(parts: &[Vec<u8>], whole: &[u8]) -> bool {
 }
 
 /// Whether tile-parts and pieces are the same bytes, and have these lengths.
-fn are_so(
-    parts: &Result<Vec<Vec<u8>>, AssembleFault>,
-    pieces: &Result<Pieces, AssembleFault>,
-    row: &Row,
-) -> bool {
-    match (parts, pieces) {
-        (Ok(parts), Ok(pieces)) => {
+fn are_so(tile: &Result<(Vec<Vec<u8>>, Pieces), AssembleFault>, row: &Row) -> bool {
+    match tile {
+        Ok((parts, pieces)) => {
             have_sizes(parts, row.parts)
                 && pieces.sizes.as_slice() == row.pieces
                 && are_whole(parts, &pieces.bytes)
         }
-        (Err(AssembleFault::TooLong), Err(AssembleFault::TooLong)) => row.parts.is_empty(),
-        _ => false,
+        Err(AssembleFault::TooLong) => row.parts.is_empty(),
+        Err(AssembleFault::NoMemory) => false,
     }
 }
 
@@ -190,9 +152,7 @@ fn is_tile(alloc: Global, plan: &OutStream<'_>, values: &[Entry<Recoded<'_>>], r
     requires made { AreMade values.now }
     requires values { AreValuesOf plan.now 0 (made_in values.now) }
 {
-    let parts = whole_tile(alloc, plan, values, row.most);
-    let pieces = put_tile(alloc, plan, values, row.most);
-    are_so(&parts, &pieces, row)
+    are_so(&put_tile(alloc, plan, values, row.most), row)
 }
 
 /// Whether the one tile of a plan is so. None where a block has a pass, or for want of memory.
