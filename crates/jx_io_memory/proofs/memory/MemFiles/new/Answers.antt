@@ -1,5 +1,5 @@
-use Rattle.jx_io.proofs.PlanLemmas.{first_next}
-use Rattle.jx_io.proofs.memory.MemFiles.new.Goals as goal
+use Rattle.jx_io_memory.proofs.PlanLemmas.{first_next}
+use Rattle.jx_io_memory.proofs.memory.MemFiles.new.Goals as goal
 
 -- no call of any kind was made
 pub returns-clause-first : goal.returns-clause-first

@@ -1,13 +1,13 @@
 -- The plan of files in memory.
 use Rattle.std.specs.Prelude.{ℕ, ◌≡◌, ◌+◌, ◌⊎◌, List, Contains, Option, Result, Err}
-use Rattle.jx_io.specs.declared.plan.Call.{Call}
-use Rattle.jx_io.specs.declared.plan.PlannedFault.{PlannedFault}
+use Rattle.jx_io_memory.specs.declared.plan.Call.{Call}
+use Rattle.jx_io_memory.specs.declared.plan.PlannedFault.{PlannedFault}
 use Rattle.jx_io.specs.declared.refused.Refused.{Refused}
 use Rattle.jx_io.specs.declared.refused.Refused.TheVariants.{Failed}
-use Rattle.jx_io.specs.declared.memory.MemFiles.{MemFiles}
+use Rattle.jx_io_memory.specs.declared.memory.MemFiles.{MemFiles}
 use Rattle.jx_io.specs.Device.{Meaning}
 use Rattle.jx_io.specs.Stored.{meaning_of}
-use Rattle.jx_io.specs.Planned.{Counts, next_of}
+use Rattle.jx_io_memory.specs.Planned.{Counts, next_of}
 
 -- all of these files, of which all is told
 abbrev pub told : MemFiles → Meaning

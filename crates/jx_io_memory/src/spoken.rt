@@ -3,7 +3,7 @@
 ghost use Rattle.std.specs.Prelude.{Err, ◌≡◌, ◌++◌, [], ◌∷◌, List, ℕ, Some, OnOk, OnErr, string_bytes};
 ghost use Rattle.jx_io.specs.Causes.{HasCause};
 
-use crate::{Refused, Sink};
+use jx_io::{Refused, Sink};
 use std::alloc::Global;
 
 /// A sink that keeps its text, of which the nth `say` can be made to fail.
@@ -16,7 +16,7 @@ pub struct MemSink {
 }
 
 impl MemSink {
-    ghost use Rattle.jx_io.specs.SinkPlan.{next_say, planned_says};
+    ghost use Rattle.jx_io_memory.specs.SinkPlan.{next_say, planned_says};
 
     /// Nothing said, and no call that is to fail.
     pub fn new(alloc: Global) -> MemSink
@@ -55,7 +55,7 @@ impl MemSink {
 }
 
 impl Sink for MemSink {
-    ghost use Rattle.jx_io.specs.SinkPlan.{ShowsSay};
+    ghost use Rattle.jx_io_memory.specs.SinkPlan.{ShowsSay};
 
     ghost said = { λ s. Some (string_bytes s.text) };
 

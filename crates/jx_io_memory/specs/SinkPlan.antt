@@ -2,7 +2,7 @@
 use Rattle.std.specs.Prelude.{ℕ, ◌≡◌, ◌↔◌, List, ◌+◌, ◌-◌, ◌^◌, min, Contains, Result, Err}
 use Rattle.jx_io.specs.declared.refused.Refused.{Refused}
 use Rattle.jx_io.specs.declared.refused.Refused.TheVariants.{Failed}
-use Rattle.jx_io.specs.declared.spoken.MemSink.{MemSink}
+use Rattle.jx_io_memory.specs.declared.spoken.MemSink.{MemSink}
 
 -- the numbers, from 1, of the calls that are to fail
 abbrev pub planned_says : MemSink → List ℕ

@@ -6,9 +6,9 @@ ghost use Rattle.jx_io.specs.Device.{Allows, Takes, after_create, after_finish, 
 ghost use Rattle.jx_io.specs.Stored.{empty, meaning_of};
 ghost use Rattle.jx_io.specs.Causes.{HasCause, Rose};
 
+use crate::Call;
 use crate::plan::Plan;
-use crate::store::Store;
-use crate::{Call, Files, Refused};
+use jx_io::{Files, Refused, Store};
 use std::alloc::Global;
 
 /// Files in memory, of which the nth call of a kind can be made to fail, and of which each read and each write can be made to take few
@@ -26,7 +26,7 @@ pub struct MemFiles {
 }
 
 impl MemFiles {
-    ghost use Rattle.jx_io.specs.MemPlan.{length_said, most_taken, next_call, planned};
+    ghost use Rattle.jx_io_memory.specs.MemPlan.{length_said, most_taken, next_call, planned};
 
     /// No files, and no call that is to fail.
     pub fn new(alloc: Global) -> MemFiles
@@ -141,7 +141,7 @@ impl MemFiles {
 }
 
 impl Files for MemFiles {
-    ghost use Rattle.jx_io.specs.MemPlan.{Shows, length_said, most_taken, told};
+    ghost use Rattle.jx_io_memory.specs.MemPlan.{Shows, length_said, most_taken, told};
 
     ghost meaning = { λ m. meaning_of m.store };
 

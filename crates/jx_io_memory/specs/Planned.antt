@@ -1,8 +1,8 @@
 -- Which calls of files in memory are to fail.
 use Rattle.std.specs.Prelude.{ℕ, ◌≡◌, ◌+◌, ◌-◌, ◌^◌, slice_index, min}
-use Rattle.jx_io.specs.declared.plan.Call.{Call}
-use Rattle.jx_io.specs.declared.plan.Call.TheVariants.{Open, Read, Create, Write, Finish}
-use Rattle.jx_io.specs.declared.plan.Plan.{Plan}
+use Rattle.jx_io_memory.specs.declared.plan.Call.{Call}
+use Rattle.jx_io_memory.specs.declared.plan.Call.TheVariants.{Open, Read, Create, Write, Finish}
+use Rattle.jx_io_memory.specs.declared.plan.Plan.{Plan}
 
 -- a kind's place among the counts
 abbrev pub kind_of : Call → ℕ

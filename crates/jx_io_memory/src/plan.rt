@@ -1,11 +1,11 @@
 //! Which calls are to fail, for devices in memory.
 
 ghost use Rattle.std.specs.Prelude.{◌≡◌, ◌↔◌, IsTrue, OnOk, OnErr, [], ◌∷◌, ◌++◌, Contains};
-ghost use Rattle.jx_io.specs.Planned.{Counts, next_of};
+ghost use Rattle.jx_io_memory.specs.Planned.{Counts, next_of};
 
 use std::alloc::{AllocError, Global};
 
-/// A kind of call of [`crate::Files`].
+/// A kind of call of [`jx_io::Files`].
 #[derive(Clone, Copy, Debug, PartialEq, Eq)]
 pub enum Call {
     Open,
