@@ -1,7 +1,7 @@
 use Rattle.std.proofs.Common.{◌≡◌, ◌≤◌, ◌^◌, take}
 use Rattle.jx_geom.specs.Counts.{tile_blocks, tile_precincts}
 use Rattle.jx_geom.specs.Rects.{tile_rect}
-use Rattle.jx_geom.proofs.ranges.is_within_limits.Given as goal
+use Rattle.jx_packet_tests.proofs.ranges.is_within_limits.Given as goal
 use Rattle.jx_base.specs.Limits.{most_blocks}
 
 abbrev pub invariant-loop-comp : goal.invariant-loop-comp

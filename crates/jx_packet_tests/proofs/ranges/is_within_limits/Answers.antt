@@ -6,8 +6,8 @@ use Rattle.jx_geom.specs.Counts.{component_blocks, component_precincts, tile_blo
 use Rattle.jx_geom.specs.Geometry.{no_shape}
 use Rattle.jx_geom.specs.Rects.{tile_rect}
 use Rattle.jx_geom.proofs.TableLemmas.{blocks_more, blocks_room, precincts_more, precincts_room}
-use Rattle.jx_geom.proofs.ranges.is_within_limits.Goals as goal
-use Rattle.jx_geom.proofs.ranges.is_within_limits.Goals.{then-blocks-via-then-blocks, then-blocks-via-else-blocks+then-precincts}
+use Rattle.jx_packet_tests.proofs.ranges.is_within_limits.Goals as goal
+use Rattle.jx_packet_tests.proofs.ranges.is_within_limits.Goals.{then-blocks-via-then-blocks, then-blocks-via-else-blocks+then-precincts}
 
 pub loop-comp-preserved : goal.loop-comp-preserved
 loop-comp-preserved c =
