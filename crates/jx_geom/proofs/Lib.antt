@@ -1,10 +1,8 @@
-mod ChainLemmas
 mod ComponentLemmas
 pub mod CountLemmas
 pub mod EmptyLemmas
 mod LawLemmas
 pub mod LeafLemmas
-mod LeafPlaces
 pub mod NumberLemmas
 mod NumberedLeaves
 pub mod PrecinctLemmas

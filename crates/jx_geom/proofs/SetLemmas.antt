@@ -96,14 +96,3 @@ pub precinct_part_from : (tile : Rect) (s : CompShape) (r : ℕ) (b : Band) (k x
 unfolding precinct_part
 precinct_part_from tile s r b k x y h p =
     part_from (band_rect tile s r b) (part_across s r) (part_down s r) (column_at (precinct_cells tile s r) k) (row_at (precinct_cells tile s r) k) x y (band_rect_from tile s r b x y h p.place) p.cell
-
--- the same of a value that equals the rect, for a shape that equals one in its ranges
-pub band_rect_places : (tile : Rect) (s : CompShape) (r : ℕ) (b : Band) (rect : Rect) → ShapeInRange s → rect ≡ band_rect tile s r b
-    → (x y : ℕ) → InRect rect x y ↔ InBand tile s r b x y
-band_rect_places tile s r b rect h e x y =
-    (λ i. band_rect_to tile s r b x y h (rw e at i), λ i. rw e (band_rect_from tile s r b x y h i))
-
-pub block_rect_places : (tile : Rect) (s : CompShape) (r : ℕ) (b : Band) (i : ℕ) (rect : Rect) → ShapeInRange s → rect ≡ block_rect tile s r b i
-    → (x y : ℕ) → InRect rect x y ↔ InBlock tile s r b i x y
-block_rect_places tile s r b i rect h e x y =
-    (λ p. block_rect_to tile s r b i x y h (rw e at p), λ p. rw e (block_rect_from tile s r b i x y h p))

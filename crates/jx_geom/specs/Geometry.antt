@@ -27,9 +27,6 @@ abbrev pub rect_of_tile : Geometry → Rect
 rect_of_tile g = tile_rect g.canvas g.tile
 
 -- the component is there, and the resolution too
-abbrev pub HasComponent : Geometry → ℕ → Type 0
-HasComponent g c = c < length g.shapes
-
 pub record HasResolution (g : Geometry) (c r : ℕ) : Type 0 where
   pub component : c < length g.shapes
   pub level : r ≤ (shape_of g c).levels

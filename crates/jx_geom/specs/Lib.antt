@@ -13,5 +13,3 @@ pub mod Same
 -- Inner: no other crate cites these.
 pub mod Sets
 pub mod Grids
-pub mod LeafPlaces
-pub mod Search

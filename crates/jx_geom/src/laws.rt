@@ -11,7 +11,7 @@ ghost use Rattle.jx_geom.specs.declared.shape.Canvas.{Canvas};
 ghost use Rattle.jx_geom.specs.declared.shape.CompShape.{CompShape};
 ghost use Rattle.jx_geom.specs.declared.table.Resolution.{Resolution};
 ghost use Rattle.jx_geom.specs.Counts.{block_count, precinct_count, tile_count, tile_precincts};
-ghost use Rattle.jx_geom.specs.Geometry.{Geometry, GeometryInRange, HasBlock, HasResolution, no_shape, precincts_in, rect_of_tile};
+ghost use Rattle.jx_geom.specs.Geometry.{Geometry, GeometryInRange, HasBlock, HasResolution, no_shape, precincts_in, rect_of_tile, reference_across, reference_down};
 ghost use Rattle.jx_geom.specs.Numbering.{ComesBefore, IsBlock, block_number, blocks_of_all, number_in_tile};
 ghost use Rattle.jx_geom.specs.Precincts.{
   HasPrecinct,
@@ -24,6 +24,7 @@ ghost use Rattle.jx_geom.specs.Precincts.{
 };
 ghost use Rattle.jx_geom.specs.Ranges.{CanvasInRange, HasBand, ShapeInRange, exponent_across, exponent_down};
 ghost use Rattle.jx_geom.specs.Rects.{
+  band_rect,
   block_cells,
   block_rect,
   component_rect,
@@ -38,6 +39,7 @@ ghost use Rattle.jx_geom.specs.Rects.{
 };
 ghost use Rattle.jx_geom.specs.Resolutions.{ResolutionBefore, resolution_at, resolutions_of};
 ghost use Rattle.jx_geom.specs.Same.{AllSameBlocks};
+ghost use Rattle.jx_geom.specs.Sizes.{BlockFits};
 ghost use Rattle.jx_geom.specs.Sets.{
   HasPlace,
   InBand,
@@ -65,6 +67,13 @@ pub fn components_are_sets()
 /// The rect of a resolution holds its places.
 pub fn resolutions_are_sets()
     ensures { (tile : Rect) (s : CompShape) (r x y : ℕ) → ShapeInRange s → InRect (resolution_rect tile s r) x y ↔ InResolution tile s r x y }
+{}
+
+/// The rect of a band holds its places, and that of a code-block its own; no code-block is empty, or larger than Table A.18 allows.
+pub fn bands_are_sets()
+    ensures bands { (tile : Rect) (s : CompShape) (r : ℕ) (b : Band) (x y : ℕ) → ShapeInRange s → InRect (band_rect tile s r b) x y ↔ InBand tile s r b x y }
+    ensures blocks { (tile : Rect) (s : CompShape) (r : ℕ) (b : Band) (i x y : ℕ) → ShapeInRange s → InRect (block_rect tile s r b i) x y ↔ InBlock tile s r b i x y }
+    ensures fit { (tile : Rect) (s : CompShape) (r : ℕ) (b : Band) (i : ℕ) → ShapeInRange s → i < block_count tile s r b → BlockFits (block_rect tile s r b i) }
 {}
 
 /// Each place of a resolution lies in exactly one precinct, each precinct has a place, and the cells that
@@ -159,7 +168,7 @@ pub fn blocks_stay()
 {}
 
 /// A precinct stands at the later of the tile's first column and the one that the first place of its cell
-/// comes from; rows alike.
+/// comes from; rows alike. That place lies in the tile.
 pub fn reference_points_are_latest()
     ensures across { (tile : Rect) (s : CompShape) (r k : ℕ) → ShapeInRange s → k < precinct_count tile s r
         → precinct_column_point tile s r (column_at (precinct_cells tile s r) k)
@@ -167,4 +176,6 @@ pub fn reference_points_are_latest()
     ensures down { (tile : Rect) (s : CompShape) (r k : ℕ) → ShapeInRange s → k < precinct_count tile s r
         → precinct_row_point tile s r (row_at (precinct_cells tile s r) k)
         ≡ max tile.y.low (row_at (precinct_cells tile s r) k * (2 ^ exponent_down s r * (2 ^ (s.levels - r) * s.dy))) }
+    ensures inside { (g : Geometry) (c r k : ℕ) → GeometryInRange g → HasPrecinct g c r k
+        → InRect (rect_of_tile g) (reference_across g c r k) (reference_down g c r k) }
 {}

@@ -2,7 +2,7 @@
 
 ghost use Rattle.std.specs.Prelude.{◌≡◌, ◌≤◌, ◌<◌, ◌+◌, ◌*◌, ◌/◌, ◌%◌, ◌^◌, ℕ, max};
 ghost use Rattle.jx_base.specs.Places.{size_of};
-ghost use Rattle.jx_geom.specs.Geometry.{GeometryInRange, blocks_in};
+ghost use Rattle.jx_geom.specs.Geometry.{GeometryInRange};
 ghost use Rattle.jx_geom.specs.Leaves.{AreLeaves, count_of, leaf_at, band_leaf_at};
 ghost use Rattle.jx_geom.specs.Precincts.{HasPrecinct, cells_at, leaf_index};
 ghost use Rattle.jx_geom.specs.Ranges.{HasBand};

@@ -3,14 +3,7 @@
 ghost use Rattle.std.specs.Prelude.{◌≡◌, ◌≤◌, ◌<◌, ◌^◌};
 ghost use Rattle.jx_base.specs.Places.{size_of};
 ghost use Rattle.jx_geom.specs.Counts.{blocks_before_band, tile_blocks, tile_precincts};
-ghost use Rattle.jx_geom.specs.Geometry.{
-  GeometryInRange,
-  HasBlock,
-  HasResolution,
-  blocks_in,
-  rect_of_tile,
-  shape_of,
-};
+ghost use Rattle.jx_geom.specs.Geometry.{HasBlock, HasResolution, blocks_in, rect_of_tile, shape_of};
 ghost use Rattle.jx_geom.specs.Numbering.{number_in_tile};
 ghost use Rattle.jx_geom.specs.Precincts.{HasPrecinct, precinct_number};
 ghost use Rattle.jx_geom.specs.Ranges.{HasBand};

@@ -1,8 +1,8 @@
 //! The rects of a tile, from its own rect on.
 
 ghost use Rattle.std.specs.Prelude.{◌≡◌, ◌≤◌, ◌<◌, ◌^◌, ◌*◌, ◌-◌, ◌↔◌, None, IfSome, IsTrue};
-ghost use Rattle.jx_base.specs.Places.{InRect, InSpan, column_at, row_at, size_of};
-ghost use Rattle.jx_geom.specs.Counts.{tile_count, precinct_count, block_count};
+ghost use Rattle.jx_base.specs.Places.{InSpan, column_at, row_at, size_of};
+ghost use Rattle.jx_geom.specs.Counts.{tile_count, precinct_count};
 ghost use Rattle.jx_geom.specs.Grids.{AreCells, cell_part};
 ghost use Rattle.jx_geom.specs.Ranges.{CanvasInRange, ShapeInRange, HasBand};
 ghost use Rattle.jx_geom.specs.Rects.{
@@ -19,7 +19,6 @@ ghost use Rattle.jx_geom.specs.Rects.{
   block_cells,
   precinct_part,
   precinct_blocks,
-  block_rect,
   precinct_column_point,
   precinct_row_point,
 };
@@ -27,7 +26,7 @@ ghost use Rattle.jx_geom.specs.Rects.{
 use crate::exponents::{Exponents, of_block, of_part, of_precinct};
 use crate::shape::{Canvas, CompShape};
 use crate::spans::{cells_of, count_tiles, every, has_none, one_band, one_tile, part_of, point_of};
-use jx_base::{Band, Rect, Span};
+use jx_base::{Band, Rect};
 
 /// How many tiles a canvas has: those across times those down (T.800, equation B-5).
 pub fn tiles(canvas: &Canvas) -> u64
@@ -222,20 +221,6 @@ pub(crate) fn block_in(places: Rect, cells: Rect, size: Exponents, index: u32) -
     }
 }
 
-/// The places of a block.
-#[tactic(auto, unfolding(crate::specs::Rects::block_cells, crate::specs::Rects::block_rect))]
-pub(crate) fn block_of(tile: Rect, shape: &CompShape, res: u8, band: Band, index: u32) -> Rect
-    requires shape { ShapeInRange shape.now }
-    requires res { res ≤ shape.now.levels }
-    requires band { HasBand res band }
-    requires index { index < block_count tile shape.now res band }
-    ensures { result ≡ block_rect tile shape.now res band index }
-{
-    let places = band_of(tile, shape, res, band);
-    let size = of_block(shape, res);
-    block_in(places, cells_in(places, size), size, index)
-}
-
 /// The part of a band that lies in a precinct.
 #[tactic(auto, using(crate::proofs::RectLemmas::precinct_column_low, crate::proofs::RectLemmas::precinct_row_low, crate::proofs::SpanLemmas::halved_times), unfolding(crate::specs::Rects::precinct_part))]
 fn precinct_part_of(tile: Rect, shape: &CompShape, res: u8, band: Band, precinct: u32) -> Rect
@@ -279,30 +264,6 @@ pub(crate) fn precinct_blocks_of(
     }
 }
 
-/// The precinct in which a block of a band lies.
-pub(crate) fn precinct_of_block(
-    tile: Rect,
-    shape: &CompShape,
-    res: u8,
-    band: Band,
-    index: u32,
-) -> u32
-    requires shape { ShapeInRange shape.now }
-    requires res { res ≤ shape.now.levels }
-    requires band { HasBand res band }
-    requires index { index < block_count tile shape.now res band }
-    requires few { precinct_count tile shape.now res ≤ 2 ^ 22 }
-    ensures below { result < precinct_count tile shape.now res }
-    ensures cell { InRect (precinct_blocks tile shape.now res band result) (column_at (block_cells tile shape.now res band) index) (row_at (block_cells tile shape.now res band) index) }
-{
-    let cells = blocks_of(tile, shape, res, band);
-    let part = of_part(shape, res);
-    let size = of_block(shape, res);
-    let column = column_of(cells, index) >> (part.across - size.across);
-    let row = row_of(cells, index) >> (part.down - size.down);
-    precincts_of(tile, shape, res).number(column, row) as u32
-}
-
 /// How many columns and rows of the reference grid lie from one place of a resolution to the next.
 fn steps_of(shape: &CompShape, res: u8) -> (u64, u64)
     requires shape { ShapeInRange shape.now }
@@ -342,23 +303,4 @@ pub(crate) fn point_of_precinct(
     let x = point_of(tile.x.low, places.x.low, size.across, right, column);
     let y = point_of(tile.y.low, places.y.low, size.down, below, row);
     Some((x, y))
-}
-
-/// Where a precinct that is there stands on the reference grid.
-pub(crate) fn reference_of_precinct(
-    tile: Rect,
-    shape: &CompShape,
-    res: u8,
-    precinct: u32,
-) -> (u64, u64)
-    requires shape { ShapeInRange shape.now }
-    requires res { res ≤ shape.now.levels }
-    requires precinct { precinct < precinct_count tile shape.now res }
-    ensures across { result.0 ≡ precinct_column_point tile shape.now res (column_at (precinct_cells tile shape.now res) precinct) }
-    ensures down { result.1 ≡ precinct_row_point tile shape.now res (row_at (precinct_cells tile shape.now res) precinct) }
-{
-    match point_of_precinct(tile, shape, res, precinct) {
-        Some(point) => point,
-        None => (0, 0),
-    }
 }

@@ -1,16 +1,14 @@
 //! The geometry of one tile.
 
 ghost use Rattle.std.specs.Prelude.{◌≡◌, ◌≤◌, ◌<◌, ◌-◌, ◌*◌, ◌^◌, ℕ, ◌↔◌, ◌⊎◌, [], None, IfOk, IfSome, length};
-ghost use Rattle.jx_base.specs.Places.{InRect, column_at, length_of, row_at, size_of};
+ghost use Rattle.jx_base.specs.Places.{InRect, length_of, size_of};
 ghost use Rattle.jx_geom.specs.Counts.{tile_count};
 ghost use Rattle.jx_geom.specs.Geometry.{
   Geometry,
   GeometryInRange,
-  HasBlock,
   HasResolution,
   ShapesInRange,
   WithinLimits,
-  band_in,
   blocks_in,
   precincts_in,
   rect_of_tile,
@@ -19,23 +17,21 @@ ghost use Rattle.jx_geom.specs.Geometry.{
   shape_of,
 };
 ghost use Rattle.jx_geom.specs.Grids.{grid_in};
-ghost use Rattle.jx_geom.specs.Precincts.{HasPrecinct, cells_at};
+ghost use Rattle.jx_geom.specs.Precincts.{HasPrecinct};
 ghost use Rattle.jx_geom.specs.Ranges.{CanvasInRange, ShapeInRange, HasBand};
-ghost use Rattle.jx_geom.specs.Rects.{component_rect, tile_rect, precinct_blocks, block_rect, block_across, block_down};
+ghost use Rattle.jx_geom.specs.Rects.{component_rect, tile_rect, precinct_blocks, block_across, block_down};
 ghost use Rattle.jx_geom.specs.Resolutions.{all_places, all_resolutions, resolution_at, resolutions_of};
-ghost use Rattle.jx_geom.specs.Sets.{HasPlace, InBand, InBlock, InCell, InPart, InTile};
-ghost use Rattle.jx_geom.specs.Sizes.{BlockFits};
+ghost use Rattle.jx_geom.specs.Sets.{HasPlace, InBand, InCell, InPart, InTile};
 ghost use Rattle.jx_base.specs.Limits.{most_blocks};
 
 use crate::grid::{BlockGrid, grid_of};
 use crate::rects::{
-    band_of, block_of, blocks_of, point_of_precinct, precinct_blocks_of, precinct_of_block,
-    precincts_of, reference_of_precinct, tile_of,
+    blocks_of, point_of_precinct, precinct_blocks_of, precincts_of, tile_of,
 };
 use crate::shape::{Canvas, CompShape};
 use crate::shapes::Shapes;
 use crate::table::{Resolution, Table, table_of};
-use jx_base::{Band, BlockName, NoMemory, Rect};
+use jx_base::{Band, NoMemory, Rect};
 use std::alloc::Global;
 use std::marker::Model;
 
@@ -160,16 +156,6 @@ impl TileGeom {
         self.table.entry(comp, res)
     }
 
-    /// The places of a band (T.800, B.5).
-    pub fn band(&self, comp: u16, res: u8, band: Band) -> Rect
-        requires res { HasResolution self.now comp res }
-        requires band { HasBand res band }
-        ensures value { result ≡ band_in self.now comp res band }
-        ensures places { (x y : ℕ) → InRect result x y ↔ InBand (rect_of_tile self.now) (shape_of self.now comp) res band x y }
-    {
-        band_of(self.places, self.shape(comp), res, band)
-    }
-
     /// How many columns and rows of precincts a resolution has (T.800, B.6); none where it is empty.
     pub fn precincts(&self, comp: u16, res: u8) -> (u32, u32)
         requires { HasResolution self.now comp res }
@@ -198,8 +184,7 @@ impl TileGeom {
         blocks_of(self.places, self.shape(comp), res, band)
     }
 
-    /// The code-blocks of a band by their indices, for those who ask for many: each block's places are those
-    /// that `block` gives.
+    /// The code-blocks of a band by their indices, for those who ask for many.
     pub fn block_grid(&self, comp: u16, res: u8, band: Band) -> BlockGrid
         requires res { HasResolution self.now comp res }
         requires band { HasBand res band }
@@ -220,49 +205,6 @@ impl TileGeom {
             × InCell (block_across (shape_of self.now comp) res) (block_down (shape_of self.now comp) res) u v x y) }
     {
         precinct_blocks_of(self.places, self.shape(comp), res, band, precinct)
-    }
-
-    /// The places of a code-block in its band.
-    pub fn block(&self, name: &BlockName) -> Rect
-        requires { HasBlock self.now name.now }
-        ensures value { result ≡ block_rect (rect_of_tile self.now) (shape_of self.now name.now.comp) name.now.res name.now.band name.now.index }
-        ensures places { (x y : ℕ) → InRect result x y ↔ InBlock (rect_of_tile self.now) (shape_of self.now name.now.comp) name.now.res name.now.band name.now.index x y }
-        ensures fits { BlockFits result }
-    {
-        block_of(
-            self.places,
-            self.shape(name.comp),
-            name.res,
-            name.band,
-            name.index,
-        )
-    }
-
-    /// The precinct in which a code-block lies.
-    pub(crate) fn precinct_of(&self, name: &BlockName) -> u32
-        requires { HasBlock self.now name.now }
-        ensures there { HasPrecinct self.now name.now.comp name.now.res result }
-        ensures cell { InRect (cells_at self.now name.now.comp name.now.res result name.now.band) (column_at (blocks_in self.now name.now.comp name.now.res name.now.band) name.now.index) (row_at (blocks_in self.now name.now.comp name.now.res name.now.band) name.now.index) }
-        ensures range { GeometryInRange self.now }
-    {
-        precinct_of_block(
-            self.places,
-            self.shape(name.comp),
-            name.res,
-            name.band,
-            name.index,
-        )
-    }
-
-    /// Where a precinct stands on the reference grid, x and y (T.800, B.12.1.3).
-    pub fn reference_point(&self, comp: u16, res: u8, precinct: u32) -> (u64, u64)
-        requires res { HasResolution self.now comp res }
-        requires precinct { precinct < size_of (precincts_in self.now comp res) }
-        ensures across { result.0 ≡ reference_across self.now comp res precinct }
-        ensures down { result.1 ≡ reference_down self.now comp res precinct }
-        ensures inside { InRect (rect_of_tile self.now) result.0 result.1 }
-    {
-        reference_of_precinct(self.places, self.shape(comp), res, precinct)
     }
 
     /// Where a precinct stands on the reference grid, x and y (T.800, B.12.1.3); none where it isn't there. The

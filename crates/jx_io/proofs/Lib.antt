@@ -1,4 +1,3 @@
 mod StoreLemmas
 mod ThereLemmas
-mod PlanLemmas
 mod DraftLemmas

@@ -2,8 +2,5 @@ pub mod Causes
 pub mod Device
 pub mod Stored
 -- Inner: no other crate cites these.
-pub mod Planned
-pub mod MemPlan
-pub mod SinkPlan
 pub mod Drafts
 pub mod Shown

@@ -18,15 +18,3 @@ pub trait Gate {
     /// No block is in hand any more, and how the run went isn't said yet. Told once after `begin`.
     fn end(&self) {}
 }
-
-/// A gate that does nothing.
-#[derive(Clone, Copy, Debug, Drop)]
-pub struct NoGate;
-
-impl Gate for NoGate {
-    fn begin(&self, _blocks: u32) {}
-
-    fn enter(&self, _block: u32) {}
-
-    fn leave(&self, _block: u32) {}
-}

@@ -4,6 +4,7 @@ ghost use Rattle.std.specs.Prelude.{ℕ, List};
 
 use crate::checks::{check, equal, equal_at};
 use jx_io::*;
+use jx_io_memory::{Call, MemFiles, MemSink, SureSink};
 use std::test::Fail;
 
 // Whether bytes that begin with 7 are written to a file, which is ended, opened and read, and a name that isn't there is refused.

@@ -5,6 +5,7 @@ use crate::geometries::{
     WHOLE, area, band_at, blocks_at, cells_at, geometry, point_at, precincts_at, shape,
     two_components,
 };
+use crate::ranges::{is_canvas, is_shape};
 use jx_base::{Band, Rect};
 use jx_geom::{Canvas, CompShape, TileGeom, count_blocks, count_precincts, tiles};
 use std::process::Abort;
@@ -236,7 +237,7 @@ const COUNTS: [(Option<u32>, u16, (u8, u8, u8), bool, (u128, u128)); 7] = [
 
 /// The code-blocks and precincts of a component, where it and its tile are within the ranges.
 fn counts(canvas: &Canvas, tile: u16, comp: &CompShape) -> Option<(u128, u128)> {
-    if canvas.is_in_range() && u64::from(tile) < tiles(canvas) && comp.is_in_range() {
+    if is_canvas(canvas) && u64::from(tile) < tiles(canvas) && is_shape(comp) {
         Some((
             count_blocks(canvas, tile, comp),
             count_precincts(canvas, tile, comp),

@@ -1,16 +1,22 @@
 //! Geometries of tiles that are made from what is within the ranges, and queries of what they have.
 
-ghost use Rattle.std.specs.Prelude.{◌≡◌, ◌<◌, ◌≤◌, ◌*◌, ◌↔◌, IsTrue, IfOk, length};
+ghost use Rattle.std.specs.Prelude.{◌≡◌, ◌<◌, ◌*◌, ◌↔◌, IsTrue};
 ghost use Rattle.jx_base.specs.Places.{size_of};
 ghost use Rattle.jx_geom.specs.Geometry.{HasResolution, ShapesInRange, precincts_in, blocks_in};
 ghost use Rattle.jx_geom.specs.Ranges.{HasBand};
 
-use jx_base::{Band, BlockName, Rect};
-use jx_geom::{Canvas, CompShape, TileGeom, is_within_limits, tiles};
+use crate::ranges::{is_canvas, is_shape, is_within_limits};
+use jx_base::{Band, Rect, Span};
+use jx_geom::{Canvas, CompShape, TileGeom, tiles};
 use std::alloc::Global;
 use std::test::Fail;
 
 pub(crate) const BANDS: [Band; 4] = [Band::LL, Band::HL, Band::LH, Band::HH];
+
+const NO_PLACE: Rect = Rect {
+    x: Span { low: 0, high: 0 },
+    y: Span { low: 0, high: 0 },
+};
 
 /// A precinct for each resolution.
 pub(crate) const WHOLE: [u8; 33] = [0xff; 33];
@@ -19,7 +25,7 @@ fn are_in_range(comps: &[CompShape]) -> bool
     ensures { IsTrue result → ShapesInRange comps.now }
 {
     for comp in comps {
-        if !comp.is_in_range() {
+        if !is_shape(comp) {
             return false;
         }
     }
@@ -33,7 +39,7 @@ pub(crate) fn geometry(
     tile: u16,
     comps: &[CompShape],
 ) -> Result<TileGeom, Fail> {
-    let sound = canvas.is_in_range() && u64::from(tile) < tiles(canvas) && are_in_range(comps);
+    let sound = is_canvas(canvas) && u64::from(tile) < tiles(canvas) && are_in_range(comps);
     let few = comps.len() <= 16_384;
     if !sound || !few || !is_within_limits(canvas, tile, comps) {
         return Err("out of range")?;
@@ -56,12 +62,27 @@ pub(crate) fn has_band(res: u8, band: Band) -> bool
     }
 }
 
+/// The places of a band: from those of its first code-block to those of its last one; none where it has no block.
 pub(crate) fn band_at(geom: &TileGeom, comp: u16, res: u8, band: Band) -> Option<Rect> {
-    if has_resolution(geom, comp, res) && has_band(res, band) {
-        Some(geom.band(comp, res, band))
-    } else {
-        None
+    if !has_resolution(geom, comp, res) || !has_band(res, band) {
+        return None;
     }
+    let grid = geom.block_grid(comp, res, band);
+    if grid.count() == 0 {
+        return Some(NO_PLACE);
+    }
+    let first = grid.block(0);
+    let last = grid.block(grid.count() - 1);
+    Some(Rect {
+        x: Span {
+            low: first.x.low,
+            high: last.x.high,
+        },
+        y: Span {
+            low: first.y.low,
+            high: last.y.high,
+        },
+    })
 }
 
 pub(crate) fn cells_at(geom: &TileGeom, comp: u16, res: u8, band: Band) -> Option<Rect> {
@@ -89,11 +110,7 @@ pub(crate) fn has_precinct(geom: &TileGeom, comp: u16, res: u8, precinct: u32) -
 }
 
 pub(crate) fn point_at(geom: &TileGeom, comp: u16, res: u8, precinct: u32) -> Option<(u64, u64)> {
-    if has_resolution(geom, comp, res) && has_precinct(geom, comp, res, precinct) {
-        Some(geom.reference_point(comp, res, precinct))
-    } else {
-        None
-    }
+    geom.point_of(comp, res, precinct)
 }
 
 pub(crate) fn blocks_at(
@@ -133,13 +150,7 @@ pub(crate) fn block_at(
     {
         return None;
     }
-    Some(geom.block(&BlockName {
-        tile: geom.number(),
-        comp,
-        res,
-        band,
-        index,
-    }))
+    Some(geom.block_grid(comp, res, band).block(index))
 }
 
 pub(crate) fn area(rect: Rect) -> u64

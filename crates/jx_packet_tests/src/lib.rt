@@ -20,4 +20,6 @@ mod order_tests;
 #[cfg(test)]
 mod plain_tests;
 #[cfg(test)]
+mod ranges;
+#[cfg(test)]
 mod tagtree_tests;

@@ -1,27 +1,64 @@
-//! From the names of a tile's precincts and code-blocks to their numbers, and back; blocks by their indices and by their names.
+//! The numbers of a tile's precincts and code-blocks, in the order of their names, and of a precinct's leaves.
 
-use crate::checks::{check_at, equal_at};
+use crate::checks::{check_at, equal, equal_at};
 use crate::geometries::{
     BANDS, WHOLE, geometry, has_band, has_block, has_precinct, has_resolution, shape,
 };
 use jx_base::{Band, BlockName};
-use jx_geom::{Canvas, PrecinctName, TileGeom};
+use jx_geom::{Canvas, TileGeom};
 use std::process::Abort;
 use std::test::Fail;
 
-/// Whether the cell of a block is one of those of a precinct in the band.
-fn holds(geom: &TileGeom, name: &BlockName, precinct: u32) -> bool {
-    if !has_resolution(geom, name.comp, name.res)
-        || !has_band(name.res, name.band)
-        || !has_block(geom, name.comp, name.res, name.band, name.index)
-        || !has_precinct(geom, name.comp, name.res, precinct)
-    {
-        return false;
+/// The number of the block in a cell of a band; none where there is no such cell.
+fn number_in(
+    geom: &TileGeom,
+    comp: u16,
+    res: u8,
+    band: Band,
+    (column, row): (u32, u32),
+) -> Option<usize> {
+    if !has_resolution(geom, comp, res) || !has_band(res, band) {
+        return None;
     }
-    let all = geom.cells(name.comp, name.res, name.band);
-    let (column, row) = all.place(u64::from(name.index));
-    let part = geom.blocks(name.comp, name.res, name.band, precinct);
-    (part.x.low..part.x.high).contains(&column) && (part.y.low..part.y.high).contains(&row)
+    let all = geom.cells(comp, res, band);
+    if !(all.x.low..all.x.high).contains(&column) || !(all.y.low..all.y.high).contains(&row) {
+        return None;
+    }
+    let index = all.number(column, row) as u32;
+    if !has_block(geom, comp, res, band, index) {
+        return None;
+    }
+    let number = geom.block_number(&BlockName {
+        tile: geom.number(),
+        comp,
+        res,
+        band,
+        index,
+    });
+    Some(number as usize)
+}
+
+/// Compares the leaves of a precinct with its blocks, band by band and row by row, and gives how many they are.
+fn compare_leaves(rt: &impl Abort, geom: &TileGeom, comp: u16, res: u8, precinct: u32) -> u32 {
+    if !has_resolution(geom, comp, res) || !has_precinct(geom, comp, res, precinct) {
+        return 0;
+    }
+    let leaves = geom.leaves(comp, res, precinct);
+    let mut leaf: u32 = 0;
+    for band in BANDS {
+        if has_band(res, band) {
+            let part = geom.blocks(comp, res, band, precinct);
+            for row in part.y.low..part.y.high {
+                for column in part.x.low..part.x.high {
+                    let want = number_in(geom, comp, res, band, (column, row));
+                    equal_at(rt, &(precinct, leaf), Some(leaves.number(leaf)), want);
+                    leaf = leaf.saturating_add(1);
+                }
+            }
+        }
+    }
+    equal_at(rt, &(comp, res, precinct), leaves.count(), leaf as usize);
+    leaf
 }
 
 /// Compares the blocks of a band, of which the first has a number, and gives that of the next band's first one.
@@ -47,14 +84,7 @@ fn compare_blocks(
             band,
             index,
         };
-        equal_at(rt, &name, grid.block(index), geom.block(&name));
-        let own = geom.block_number(&name);
-        equal_at(rt, &name, own, number);
-        equal_at(rt, &own, geom.block_name(own), name);
-        let place = geom.leaf(&name);
-        check_at(rt, &name, holds(geom, &name, place.precinct));
-        let leaves = geom.leaves(comp, res, place.precinct);
-        equal_at(rt, &name, leaves.number(place.leaf), own as usize);
+        equal_at(rt, &name, geom.block_number(&name), number);
         number = number.saturating_add(1);
     }
     check_at(
@@ -65,43 +95,50 @@ fn compare_blocks(
     number
 }
 
-/// Compares the precincts of a resolution, of which the first has a number, and gives that of the next one's.
-fn compare_precincts(rt: &impl Abort, geom: &TileGeom, comp: u16, res: u8, first: u32) -> u32 {
+/// Compares the precincts of a resolution, of which the first has a number, and gives that of the next one's, and how many
+/// leaves they have.
+fn compare_precincts(
+    rt: &impl Abort,
+    geom: &TileGeom,
+    comp: u16,
+    res: u8,
+    first: u32,
+) -> (u32, u32) {
     let mut number = first;
+    let mut leaves: u32 = 0;
     for precinct in 0..64 {
         if !has_resolution(geom, comp, res) || !has_precinct(geom, comp, res, precinct) {
             break;
         }
         let own = geom.precinct_number(comp, res, precinct);
         equal_at(rt, &(comp, res, precinct), own, number);
-        let name = PrecinctName {
-            comp,
-            res,
-            precinct,
-        };
-        equal_at(rt, &own, geom.precinct_name(own), name);
+        leaves = leaves.saturating_add(compare_leaves(rt, geom, comp, res, precinct));
         number = number.saturating_add(1);
     }
-    number
+    (number, leaves)
 }
 
 /// Goes through a tile, and gives how many blocks and precincts it has.
 fn compare_tile(rt: &impl Abort, geom: &TileGeom) -> (u32, u32) {
     let mut blocks = 0;
     let mut precincts = 0;
+    let mut leaves: u32 = 0;
     for comp in 0..geom.components() as u16 {
         for res in 0..4 {
-            precincts = compare_precincts(rt, geom, comp, res, precincts);
+            let (next, own) = compare_precincts(rt, geom, comp, res, precincts);
+            precincts = next;
+            leaves = leaves.saturating_add(own);
             for band in BANDS {
                 blocks = compare_blocks(rt, geom, comp, res, band, blocks);
             }
         }
     }
+    equal(rt, leaves, blocks);
     (blocks, precincts)
 }
 
 #[test]
-fn there_and_back(rt: HostRuntime) -> Result<(), Fail> {
+fn numbers_of_two_tiles(rt: HostRuntime) -> Result<(), Fail> {
     let canvas = Canvas {
         x1: 40,
         y1: 23,
@@ -129,7 +166,7 @@ fn there_and_back(rt: HostRuntime) -> Result<(), Fail> {
 }
 
 #[test]
-fn four_tiles(rt: HostRuntime) -> Result<(), Fail> {
+fn numbers_of_four_tiles(rt: HostRuntime) -> Result<(), Fail> {
     let canvas = Canvas {
         x1: 61,
         y1: 47,

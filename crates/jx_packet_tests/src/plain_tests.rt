@@ -5,6 +5,7 @@ use crate::geometries::{
     BANDS, WHOLE, area, band_at, block_at, blocks_at, cells_at, geometry, has_band, precincts_at,
     shape,
 };
+use crate::ranges::is_canvas;
 use jx_base::{Band, Rect};
 use jx_geom::{Canvas, CompShape, TileGeom, tiles};
 use std::process::Abort;
@@ -181,7 +182,7 @@ fn compare_tiles(
     canvas: Canvas,
     comp: CompShape,
 ) -> Result<(), Fail> {
-    check(rt, canvas.is_in_range());
+    check(rt, is_canvas(&canvas));
     for tile in 0..2 {
         if u64::from(tile) < tiles(&canvas) {
             let geom = geometry(rt.alloc(), &canvas, tile, &[comp])?;

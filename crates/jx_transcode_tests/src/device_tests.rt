@@ -4,7 +4,7 @@ use crate::bytes::{joined, put_all};
 use crate::checks::equal;
 use crate::run_tests::{GOOD, SMALL};
 use crate::runs::{Devices, Made, Want, ending, ends, holding, made_of, rewrites};
-use jx_io::Call;
+use jx_io_memory::Call;
 use jx_transcode::Status;
 use std::alloc::{AllocError, Global};
 use std::test::Fail;

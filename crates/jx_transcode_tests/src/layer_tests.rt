@@ -3,7 +3,7 @@
 use crate::run_tests::{GOOD, SMALL};
 use crate::runs::{Made, Want, ending, holding, is_left, run_planned};
 use crate::style_tests::body;
-use jx_io::NoGate;
+use jx_io_memory::NoGate;
 use jx_layers::{LayerPlanner, TableLayers};
 use jx_transcode::Status;
 use std::alloc::Global;

@@ -2,7 +2,7 @@
 
 use crate::checks::equal;
 use crate::runs::{Devices, Made, Want, ending, ends, holding, is_left, run_planned, run_words};
-use jx_io::{Call, NoGate};
+use jx_io_memory::{Call, NoGate};
 use jx_layers::{KeepLayers, LayerPlanner};
 use jx_transcode::Status;
 use std::alloc::{AllocError, Global};

@@ -3,7 +3,8 @@
 use crate::bytes::spliced;
 use crate::checks::{check, equal};
 use crate::runs::{Devices, Left, Made, Want, ending, ends, holding, run_words};
-use jx_io::{Call, Files, MemFiles, Refused};
+use jx_io::{Files, Refused};
+use jx_io_memory::{Call, MemFiles};
 use jx_transcode::{Status, TapeEntry};
 use std::test::Fail;
 

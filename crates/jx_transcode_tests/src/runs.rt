@@ -1,7 +1,8 @@
 //! A run over files in memory: what its devices hold and refuse, and what it leaves.
 
 use crate::checks::{check_at, equal, equal_at};
-use jx_io::{Call, Gate, MemFiles, MemSink, NoGate};
+use jx_io::Gate;
+use jx_io_memory::{Call, MemFiles, MemSink, NoGate};
 use jx_layers::{CutLayers, KeepLayers, LayerPlanner, OneLayer, PlaneLayers};
 use jx_transcode::{Report, Status, run};
 use std::alloc::{AllocError, Global};

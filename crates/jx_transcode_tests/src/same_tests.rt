@@ -3,7 +3,7 @@
 use crate::bytes::{Edit, spliced};
 use crate::run_tests::SMALL;
 use crate::runs::{Devices, Want, ending, ends, holding, stops};
-use jx_io::Call;
+use jx_io_memory::Call;
 use jx_transcode::Status;
 use std::process::Abort;
 use std::sync::Wait;

@@ -1,6 +1,0 @@
-use Rattle.jx_io.proofs.PlanLemmas.{first_next}
-use Rattle.jx_io.proofs.memory.MemFiles.new.Goals as goal
-
--- no call of any kind was made
-pub returns-clause-first : goal.returns-clause-first
-returns-clause-first c = first_next c.new-2.result c.new-2.ensures.made
