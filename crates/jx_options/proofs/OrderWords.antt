@@ -1,7 +1,7 @@
--- The words of progression orders: the table has the numbers of all orders, and no others.
-use Rattle.std.proofs.Common.{◌≡◌, arith, ℕ, zero, suc, List, [], ◌∷◌, slice_index_or, codes, refl, Option, None, Some, IfSome}
+-- The words and the names of progression orders: the tables have the numbers of all orders, and no others.
+use Rattle.std.proofs.Common.{◌≡◌, arith, ℕ, zero, suc, List, codes, refl, Option, None, Some, IfSome}
 use Rattle.jx_base.specs.OrderNumbers.{IsOrderNumber}
-use Rattle.jx_options.specs.Names.{order_said, orders}
+use Rattle.jx_options.specs.Orders.{order_said, orders, word_named}
 use Rattle.jx_options.proofs.ValueLemmas.{found}
 
 pub order_few : (text : List ℕ) → IfSome (order_said text) (λ v. IfSome v IsOrderNumber)
@@ -9,7 +9,7 @@ order_few text = found (λ v. IfSome v IsOrderNumber) orders text (tt, (omega ar
 
 abbrev pub order_word : Option ℕ → List ℕ
 order_word None = codes "keep"
-order_word (Some order) = slice_index_or (codes "lrcp" ∷ codes "rlcp" ∷ codes "rpcl" ∷ codes "pcrl" ∷ codes "cprl" ∷ []) order []
+order_word (Some order) = word_named order
 
 pub order_back : (order : Option ℕ) → IfSome order IsOrderNumber → order_said (order_word order) ≡ Some order
 order_back None few = refl

@@ -3,5 +3,6 @@ pub mod Values
 pub mod Wanted
 pub mod Work
 pub mod Names
+pub mod Orders
 -- Inner: no other crate cites these.
 pub mod Parts

@@ -1,5 +1,6 @@
--- The table of the options of `jx transcode`: what each is called, what stands for it where it isn't among the words, which words are its values, and what the help says of it.
-use Rattle.std.specs.Prelude.{ℕ, Bool, true, false, List, [], ◌∷◌, Option, None, Some, map, codes, if◌then◌else◌, is_some}
+-- The table of the options of all commands: what each is called, what stands for it where it isn't among the words, which words are its
+-- values, and what the help says of it.
+use Rattle.std.specs.Prelude.{ℕ, Bool, true, false, List, [], ◌∷◌, ◌++◌, Option, Some, map, codes, if◌then◌else◌, is_some}
 use Rattle.std.specs.Str.{bytes_eq}
 use Rattle.jx_base.specs.Limits.{most_bytes}
 use Rattle.jx_base.specs.Texts.{number_in}
@@ -12,11 +13,26 @@ use Rattle.jx_options.specs.declared.RsizChoice.{RsizChoice}
 use Rattle.jx_options.specs.declared.RsizChoice.TheVariants as rsiz
 use Rattle.jx_options.specs.declared.names.OptionName.{OptionName}
 use Rattle.jx_options.specs.declared.names.OptionName.TheVariants as name
+use Rattle.jx_options.specs.Orders.{order_help, order_said, order_words}
 use Rattle.jx_options.specs.Values.{precincts_said, style_said, value_in}
 
--- in the order of the help
+-- those of `transcode`, in the order of its help
+abbrev pub transcode_names : List OptionName
+transcode_names =
+    name.Order ∷ name.Precincts ∷ name.Layers ∷ name.TileParts ∷ name.Sop ∷ name.Eph ∷ name.Plt ∷ name.Tlm
+    ∷ name.Rsiz ∷ name.Form ∷ name.Style ∷ name.Reduce ∷ name.LimitBytes ∷ name.Threads ∷ name.Window ∷ name.WindowBytes ∷ []
+
+abbrev pub boxes_names : List OptionName
+boxes_names = name.LimitBytes ∷ []
+
+abbrev pub same_names : List OptionName
+same_names = name.CompareThreads ∷ name.LimitBytes ∷ []
+
+abbrev pub show_names : List OptionName
+show_names = name.Json ∷ name.LimitBytes ∷ []
+
 abbrev pub all_names : List OptionName
-all_names = name.Order ∷ name.Precincts ∷ name.Layers ∷ name.TileParts ∷ name.Sop ∷ name.Eph ∷ name.Plt ∷ name.Tlm ∷ name.Rsiz ∷ name.Form ∷ name.Style ∷ name.Reduce ∷ name.LimitBytes ∷ name.Threads ∷ name.Window ∷ name.WindowBytes ∷ []
+all_names = transcode_names ++ name.CompareThreads ∷ name.Json ∷ []
 
 abbrev pub name_of : OptionName → List ℕ
 name_of name.Order = codes "order"
@@ -35,6 +51,8 @@ name_of name.LimitBytes = codes "limit-bytes"
 name_of name.Threads = codes "threads"
 name_of name.Window = codes "window"
 name_of name.WindowBytes = codes "window-bytes"
+name_of name.CompareThreads = codes "threads"
+name_of name.Json = codes "json"
 
 -- a flag that is among the words has the text `true`
 abbrev pub default_of : OptionName → List ℕ
@@ -54,6 +72,8 @@ default_of name.LimitBytes = codes "268435456"
 default_of name.Threads = codes "1"
 default_of name.Window = codes "64"
 default_of name.WindowBytes = codes "268435456"
+default_of name.CompareThreads = codes "1"
+default_of name.Json = codes "false"
 
 -- it stands alone
 abbrev pub is_flag : OptionName → Bool
@@ -61,11 +81,8 @@ is_flag name.Sop = true
 is_flag name.Eph = true
 is_flag name.Plt = true
 is_flag name.Tlm = true
+is_flag name.Json = true
 is_flag _ = false
-
--- the progression orders by their numbers (Table A.16); with `keep` each tile keeps its own
-abbrev pub orders : List (List ℕ × Option ℕ)
-orders = (codes "keep", None) ∷ (codes "lrcp", Some 0) ∷ (codes "rlcp", Some 1) ∷ (codes "rpcl", Some 2) ∷ (codes "pcrl", Some 3) ∷ (codes "cprl", Some 4) ∷ []
 
 -- where tile-parts begin: between packets of different resolutions, layers or components
 abbrev pub part_choices : List (List ℕ × PartChoice)
@@ -79,9 +96,6 @@ rsiz_choices = (codes "zero", rsiz.Zero) ∷ (codes "keep", rsiz.Keep) ∷ []
 abbrev pub form_choices : List (List ℕ × FormChoice)
 form_choices = (codes "keep", form.Keep) ∷ (codes "j2k", form.Codestream) ∷ []
 
-abbrev pub order_said : List ℕ → Option (Option ℕ)
-order_said = value_in orders
-
 abbrev pub parts_said : List ℕ → Option PartChoice
 parts_said = value_in part_choices
 
@@ -93,24 +107,29 @@ form_said = value_in form_choices
 
 -- ---- those that are numbers
 
+-- the greatest; 0 where the values are no numbers
+abbrev pub greatest_of : OptionName → ℕ
+greatest_of name.Reduce = 32
+greatest_of name.LimitBytes = most_bytes
+greatest_of name.Threads = 64
+greatest_of name.Window = 1024
+greatest_of name.WindowBytes = most_bytes
+greatest_of name.CompareThreads = 64
+greatest_of _ = 0
+
+-- from 1 up
+abbrev pub number_said : OptionName → List ℕ → Option ℕ
+number_said name = number_in (greatest_of name)
+
 -- resolutions that are left out, 0 among them
 abbrev pub reduce_said : List ℕ → Option ℕ
-reduce_said word = if bytes_eq word (codes "0") then Some 0 else number_in 32 word
-
-abbrev pub threads_said : List ℕ → Option ℕ
-threads_said = number_in 64
-
-abbrev pub window_said : List ℕ → Option ℕ
-window_said = number_in 1024
-
-abbrev pub bytes_said : List ℕ → Option ℕ
-bytes_said = number_in most_bytes
+reduce_said word = if bytes_eq word (codes "0") then Some 0 else number_said name.Reduce word
 
 -- ---- values of all
 
 -- all the values, where these are few words
 abbrev pub listed_of : OptionName → List (List ℕ)
-listed_of name.Order = map (λ p. p.0) orders
+listed_of name.Order = order_words
 listed_of name.TileParts = map (λ p. p.0) part_choices
 listed_of name.Rsiz = map (λ p. p.0) rsiz_choices
 listed_of name.Form = map (λ p. p.0) form_choices
@@ -126,10 +145,11 @@ is_value name.Rsiz word = is_some (rsiz_said word)
 is_value name.Form word = is_some (form_said word)
 is_value name.Style word = is_some (style_said word)
 is_value name.Reduce word = is_some (reduce_said word)
-is_value name.LimitBytes word = is_some (bytes_said word)
-is_value name.Threads word = is_some (threads_said word)
-is_value name.Window word = is_some (window_said word)
-is_value name.WindowBytes word = is_some (bytes_said word)
+is_value name.LimitBytes word = is_some (number_said name.LimitBytes word)
+is_value name.Threads word = is_some (number_said name.Threads word)
+is_value name.Window word = is_some (number_said name.Window word)
+is_value name.WindowBytes word = is_some (number_said name.WindowBytes word)
+is_value name.CompareThreads word = is_some (number_said name.CompareThreads word)
 is_value _ word = false
 
 -- what stands there where no option is among the words
@@ -138,7 +158,7 @@ no_marks = record { sop = false; eph = false; plt = false; tlm = false; parts = 
 
 -- ---- what the help says beside that
 
--- the heading under which it stands
+-- the heading under which the help of `transcode` has it
 abbrev pub heading_of : OptionName → List ℕ
 heading_of name.Style = codes "How code-blocks are coded"
 heading_of name.Reduce = codes "How much of the picture is written"
@@ -146,6 +166,8 @@ heading_of name.LimitBytes = codes "How large a file is taken"
 heading_of name.Threads = codes "How the work is done (the file doesn't depend on it)"
 heading_of name.Window = codes "How the work is done (the file doesn't depend on it)"
 heading_of name.WindowBytes = codes "How the work is done (the file doesn't depend on it)"
+heading_of name.CompareThreads = []
+heading_of name.Json = []
 heading_of _ = codes "How the file is packed"
 
 -- the word that stands for a value; a flag has none
@@ -162,11 +184,12 @@ placeholder_of name.LimitBytes = codes "N"
 placeholder_of name.Threads = codes "N"
 placeholder_of name.Window = codes "N"
 placeholder_of name.WindowBytes = codes "N"
+placeholder_of name.CompareThreads = codes "N"
 placeholder_of _ = []
 
 -- what it does, its values and its default, and an example
 abbrev pub what_of : OptionName → List ℕ
-what_of name.Order = codes "keep, lrcp, rlcp, rpcl, pcrl or cprl\ndefault keep; as in --order rpcl"
+what_of name.Order = order_help
 what_of name.Precincts = codes "keep, max, or exponents from resolution 0 up:\n7x7 is 128 by 128, the last one is for all above\ndefault keep; as in --precincts 7x7,8x8"
 what_of name.Layers = codes "keep, one, cuts:N,N.. (a new layer at each of\nthese coding passes, 1 to 220, rising), or\nplanes:N (one for each N bit-planes, 1 to 74)\ndefault keep; as in --layers planes:2"
 what_of name.TileParts = codes "none, r, l or c: a new tile-part for each\nresolution, layer or component\ndefault none; as in --tile-parts r"
@@ -182,6 +205,8 @@ what_of name.LimitBytes = codes "the most bytes that an input may have (limit 1)
 what_of name.Threads = codes "workers that code blocks anew\n1 to 64, default 1; as in --threads 4"
 what_of name.Window = codes "blocks that are in work or wait for their turn\n1 to 1024, default 64; as in --window 16"
 what_of name.WindowBytes = codes "bytes of several such blocks together\n1 to 4294967295, default 268435456"
+what_of name.CompareThreads = codes "threads that compare code-blocks;\n1 to 64, default 1; as in --threads 4"
+what_of name.Json = codes "say a JSON object in place of lines"
 
 -- the least and the greatest of values that are numbers
 abbrev pub range_of : OptionName → List ℕ
@@ -190,6 +215,7 @@ range_of name.LimitBytes = codes "1 to 4294967295"
 range_of name.Threads = codes "1 to 64"
 range_of name.Window = codes "1 to 1024"
 range_of name.WindowBytes = codes "1 to 4294967295"
+range_of name.CompareThreads = codes "1 to 64"
 range_of _ = []
 
 -- what a value has to be that is neither a number, nor listed, nor any text

@@ -9,6 +9,10 @@ pub record Work : Type 0 where
   pub window : ℕ
   pub most : ℕ
 
+-- where no option is among the words
+abbrev pub default_work : Work
+default_work = record { threads = 1; window = 64; most = 268435456 }
+
 -- work that words can ask for
 pub record MayBeWork (w : Work) : Type 0 where
   pub some_threads : 1 ≤ w.threads

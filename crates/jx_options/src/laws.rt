@@ -1,11 +1,18 @@
-//! Laws over the definitions: which texts say precincts, styles and numbers, and which. They run no code.
+//! Laws over the definitions: which texts say orders, precincts, styles and numbers, and which. They run no code.
 
 ghost use Rattle.std.specs.Prelude.{◌≡◌, ◌≤◌, ◌<◌, ◌^◌, ℕ, List, Some};
 ghost use Rattle.std.specs.Fmt.{decimal};
 ghost use Rattle.jx_base.specs.declared.style.Style.{Style};
+ghost use Rattle.jx_base.specs.OrderNumbers.{IsOrderNumber};
+ghost use Rattle.jx_options.specs.Orders.{order_said, word_named};
 ghost use Rattle.jx_options.specs.Wanted.{MayBeStyle};
 ghost use Rattle.jx_options.specs.Values.{ArePrecincts, HasNamed, parts_of, precincts_in, precincts_text, style_said, style_text};
 ghost use Rattle.jx_base.specs.Texts.{number_in};
+
+/// Each progression order has a name, which in small letters is the word that asks for it (ITU-T T.800, Table A.16).
+pub fn orders_are_named()
+    ensures { (order : ℕ) → IsOrderNumber order → order_said (word_named order) ≡ Some (Some order) }
+{}
 
 /// A text says precincts exactly where it spells 1 to 33 of them, and says no others (ITU-T T.800, Table A.21).
 pub fn precincts_are_spelled()

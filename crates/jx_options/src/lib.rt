@@ -8,19 +8,21 @@ pub mod laws;
 mod names;
 mod numbers;
 mod options;
+mod orders;
 mod parts;
 mod precincts;
 mod styles;
 mod values;
 mod work;
 
-pub use names::{
-    OptionName, bytes_said, form_said, order_said, parts_said, reduce_said, rsiz_said,
-    threads_said, window_said,
-};
+pub use names::OptionName;
 pub use numbers::{long_number_in, number_in};
 pub use options::{Options, OrderChoice, PrecinctChoice};
-pub use values::{SEEDS, SIDES, precincts_said, seed_said, side_said, style_said};
+pub use orders::{order_name, order_said};
+pub use values::{
+    SEEDS, SIDES, form_said, parts_said, precincts_said, reduce_said, rsiz_said, seed_said,
+    side_said, style_said,
+};
 pub use work::Work;
 
 /// Where a tile is cut into tile-parts (ITU-T T.800, A.4.2).

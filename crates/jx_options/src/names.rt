@@ -1,14 +1,12 @@
-//! The table of the options of `jx transcode`: what each is called, what it is where it isn't among the words, which words are its values,
+//! The table of the options of all commands: what each is called, what it is where it isn't among the words, which words are its values,
 //! and what the help says of it.
 
-ghost use Rattle.std.specs.Prelude.{◌≡◌, IfOk, map, option_map};
-ghost use Rattle.jx_options.specs.Choices.{order_in};
-ghost use Rattle.jx_options.specs.Names.{all_names, bytes_said, default_of, form_of, form_said, heading_of, is_flag, is_value, listed_of, name_of, order_said, parts_said, placeholder_of, range_of, reduce_said, rsiz_said, threads_said, what_of, window_said};
+ghost use Rattle.std.specs.Prelude.{◌≡◌, IfOk, map};
+ghost use Rattle.jx_options.specs.Names.{all_names, boxes_names, default_of, form_of, greatest_of, heading_of, is_flag, is_value, listed_of, name_of, number_said, placeholder_of, range_of, same_names, show_names, transcode_names, what_of};
 
 use crate::numbers::number_in;
-use crate::options::OrderChoice;
-use crate::values::{precincts_said, style_said};
-use crate::{FormChoice, PartChoice, RsizChoice};
+use crate::orders::{order_help, order_said, order_words};
+use crate::values::{form_said, parts_said, precincts_said, reduce_said, rsiz_said, style_said};
 use jx_base::{MOST_BYTES, NoMemory};
 use std::alloc::Global;
 
@@ -47,114 +45,14 @@ pub enum OptionName {
     Window,
     /// How many bytes several such blocks may have together.
     WindowBytes,
-}
-
-/// The progression order that a word names (ITU-T T.800, Table A.16).
-pub fn order_said(word: &str) -> Option<OrderChoice>
-    ensures { option_map order_in result ≡ order_said word.now }
-{
-    if word == "keep" {
-        return Some(OrderChoice::Keep);
-    }
-    if word == "lrcp" {
-        return Some(OrderChoice::Order(0));
-    }
-    if word == "rlcp" {
-        return Some(OrderChoice::Order(1));
-    }
-    if word == "rpcl" {
-        return Some(OrderChoice::Order(2));
-    }
-    if word == "pcrl" {
-        return Some(OrderChoice::Order(3));
-    }
-    if word == "cprl" {
-        return Some(OrderChoice::Order(4));
-    }
-    None
-}
-
-/// Where a word says that tile-parts begin.
-pub fn parts_said(word: &str) -> Option<PartChoice>
-    ensures { result ≡ parts_said word.now }
-{
-    if word == "none" {
-        return Some(PartChoice::None);
-    }
-    if word == "r" {
-        return Some(PartChoice::Resolution);
-    }
-    if word == "l" {
-        return Some(PartChoice::Layer);
-    }
-    if word == "c" {
-        return Some(PartChoice::Component);
-    }
-    None
-}
-
-/// What a word says that is written of a JP2 file.
-pub fn form_said(word: &str) -> Option<FormChoice>
-    ensures { result ≡ form_said word.now }
-{
-    if word == "keep" {
-        return Some(FormChoice::Keep);
-    }
-    if word == "j2k" {
-        return Some(FormChoice::Codestream);
-    }
-    None
-}
-
-/// What profile a word has the file claim.
-pub fn rsiz_said(word: &str) -> Option<RsizChoice>
-    ensures { result ≡ rsiz_said word.now }
-{
-    if word == "zero" {
-        return Some(RsizChoice::Zero);
-    }
-    if word == "keep" {
-        return Some(RsizChoice::Keep);
-    }
-    None
-}
-
-/// How many of the highest resolutions a word leaves out, 0 to 32.
-pub fn reduce_said(word: &str) -> Option<u8>
-    ensures { result ≡ reduce_said word.now }
-{
-    if word == "0" {
-        return Some(0);
-    }
-    match number_in(32, word) {
-        Some(number) => Some(number as u8),
-        None => None,
-    }
-}
-
-/// The workers that a word asks for, 1 to 64.
-pub fn threads_said(word: &str) -> Option<u32>
-    ensures { result ≡ threads_said word.now }
-{
-    number_in(64, word)
-}
-
-/// The blocks that a word lets stand between claim and sequence, 1 to 1,024.
-pub fn window_said(word: &str) -> Option<u32>
-    ensures { result ≡ window_said word.now }
-{
-    number_in(1_024, word)
-}
-
-/// The bytes that a word lets several such blocks have together, or an input, 1 to 2^32 - 1.
-pub fn bytes_said(word: &str) -> Option<u32>
-    ensures { result ≡ bytes_said word.now }
-{
-    number_in(MOST_BYTES as u32, word)
+    /// How many threads compare code-blocks.
+    CompareThreads,
+    /// A JSON object in place of lines (RFC 8259).
+    Json,
 }
 
 impl OptionName {
-    /// All of them, in the order of the help.
+    /// All of them.
     pub fn all() -> &'static [OptionName]
         ensures { result.now ≡ all_names }
     {
@@ -175,7 +73,54 @@ impl OptionName {
             OptionName::Threads,
             OptionName::Window,
             OptionName::WindowBytes,
+            OptionName::CompareThreads,
+            OptionName::Json,
         ]
+    }
+
+    /// Those of `transcode`, in the order of its help.
+    pub fn of_transcode() -> &'static [OptionName]
+        ensures { result.now ≡ transcode_names }
+    {
+        &[
+            OptionName::Order,
+            OptionName::Precincts,
+            OptionName::Layers,
+            OptionName::TileParts,
+            OptionName::Sop,
+            OptionName::Eph,
+            OptionName::Plt,
+            OptionName::Tlm,
+            OptionName::Rsiz,
+            OptionName::Form,
+            OptionName::Style,
+            OptionName::Reduce,
+            OptionName::LimitBytes,
+            OptionName::Threads,
+            OptionName::Window,
+            OptionName::WindowBytes,
+        ]
+    }
+
+    /// That of `boxes`.
+    pub fn of_boxes() -> &'static [OptionName]
+        ensures { result.now ≡ boxes_names }
+    {
+        &[OptionName::LimitBytes]
+    }
+
+    /// Those of `same`.
+    pub fn of_same() -> &'static [OptionName]
+        ensures { result.now ≡ same_names }
+    {
+        &[OptionName::CompareThreads, OptionName::LimitBytes]
+    }
+
+    /// Those of `show`.
+    pub fn of_show() -> &'static [OptionName]
+        ensures { result.now ≡ show_names }
+    {
+        &[OptionName::Json, OptionName::LimitBytes]
     }
 
     /// The name, without its dashes.
@@ -199,6 +144,8 @@ impl OptionName {
             OptionName::Threads => "threads",
             OptionName::Window => "window",
             OptionName::WindowBytes => "window-bytes",
+            OptionName::CompareThreads => "threads",
+            OptionName::Json => "json",
         }
     }
 
@@ -213,10 +160,14 @@ impl OptionName {
             | OptionName::Form
             | OptionName::Style => "keep",
             OptionName::TileParts => "none",
-            OptionName::Sop | OptionName::Eph | OptionName::Plt | OptionName::Tlm => "false",
+            OptionName::Sop
+            | OptionName::Eph
+            | OptionName::Plt
+            | OptionName::Tlm
+            | OptionName::Json => "false",
             OptionName::Rsiz => "zero",
             OptionName::Reduce => "0",
-            OptionName::Threads => "1",
+            OptionName::Threads | OptionName::CompareThreads => "1",
             OptionName::Window => "64",
             OptionName::LimitBytes | OptionName::WindowBytes => "268435456",
         }
@@ -228,7 +179,11 @@ impl OptionName {
     {
         matches!(
             self,
-            OptionName::Sop | OptionName::Eph | OptionName::Plt | OptionName::Tlm
+            OptionName::Sop
+                | OptionName::Eph
+                | OptionName::Plt
+                | OptionName::Tlm
+                | OptionName::Json
         )
     }
 
@@ -237,7 +192,7 @@ impl OptionName {
         ensures { map (λ word. word.now) result.now ≡ listed_of self }
     {
         match self {
-            OptionName::Order => &["keep", "lrcp", "rlcp", "rpcl", "pcrl", "cprl"],
+            OptionName::Order => order_words(),
             OptionName::TileParts => &["none", "r", "l", "c"],
             OptionName::Rsiz => &["zero", "keep"],
             OptionName::Form => &["keep", "j2k"],
@@ -258,19 +213,25 @@ impl OptionName {
             OptionName::Precincts => precincts_said(alloc, word)?.is_some(),
             OptionName::Layers => true,
             OptionName::TileParts => parts_said(word).is_some(),
-            OptionName::Sop | OptionName::Eph | OptionName::Plt | OptionName::Tlm => false,
+            OptionName::Sop
+            | OptionName::Eph
+            | OptionName::Plt
+            | OptionName::Tlm
+            | OptionName::Json => false,
             OptionName::Rsiz => rsiz_said(word).is_some(),
             OptionName::Form => form_said(word).is_some(),
             OptionName::Style => style_said(word).is_some(),
             OptionName::Reduce => reduce_said(word).is_some(),
-            OptionName::Threads => threads_said(word).is_some(),
-            OptionName::Window => window_said(word).is_some(),
-            OptionName::LimitBytes | OptionName::WindowBytes => bytes_said(word).is_some(),
+            OptionName::LimitBytes
+            | OptionName::Threads
+            | OptionName::Window
+            | OptionName::WindowBytes
+            | OptionName::CompareThreads => self.number(word).is_some(),
         };
         Ok(good)
     }
 
-    /// The heading under which it stands.
+    /// The heading under which the help of `transcode` has it; nothing where it is none of its options.
     pub fn heading(self) -> &'static str
         ensures { result.now ≡ heading_of self }
     {
@@ -281,6 +242,7 @@ impl OptionName {
             OptionName::Threads | OptionName::Window | OptionName::WindowBytes => {
                 "How the work is done (the file doesn't depend on it)"
             }
+            OptionName::CompareThreads | OptionName::Json => "",
             _ => "How the file is packed",
         }
     }
@@ -301,8 +263,13 @@ impl OptionName {
             OptionName::LimitBytes
             | OptionName::Threads
             | OptionName::Window
-            | OptionName::WindowBytes => "N",
-            OptionName::Sop | OptionName::Eph | OptionName::Plt | OptionName::Tlm => "",
+            | OptionName::WindowBytes
+            | OptionName::CompareThreads => "N",
+            OptionName::Sop
+            | OptionName::Eph
+            | OptionName::Plt
+            | OptionName::Tlm
+            | OptionName::Json => "",
         }
     }
 
@@ -311,9 +278,7 @@ impl OptionName {
         ensures { result.now ≡ what_of self }
     {
         match self {
-            OptionName::Order => {
-                "keep, lrcp, rlcp, rpcl, pcrl or cprl\ndefault keep; as in --order rpcl"
-            }
+            OptionName::Order => order_help(),
             OptionName::Precincts => {
                 "keep, max, or exponents from resolution 0 up:\n7x7 is 128 by 128, the last one is for all above\ndefault keep; as in --precincts 7x7,8x8"
             }
@@ -351,6 +316,10 @@ impl OptionName {
             OptionName::WindowBytes => {
                 "bytes of several such blocks together\n1 to 4294967295, default 268435456"
             }
+            OptionName::CompareThreads => {
+                "threads that compare code-blocks;\n1 to 64, default 1; as in --threads 4"
+            }
+            OptionName::Json => "say a JSON object in place of lines",
         }
     }
 
@@ -360,11 +329,31 @@ impl OptionName {
     {
         match self {
             OptionName::Reduce => "0 to 32",
-            OptionName::Threads => "1 to 64",
+            OptionName::Threads | OptionName::CompareThreads => "1 to 64",
             OptionName::Window => "1 to 1024",
             OptionName::LimitBytes | OptionName::WindowBytes => "1 to 4294967295",
             _ => "",
         }
+    }
+
+    /// The greatest of its values, where these are numbers; 0 where they aren't.
+    fn greatest(self) -> u32
+        ensures { result ≡ greatest_of self }
+    {
+        match self {
+            OptionName::Reduce => 32,
+            OptionName::Threads | OptionName::CompareThreads => 64,
+            OptionName::Window => 1_024,
+            OptionName::LimitBytes | OptionName::WindowBytes => MOST_BYTES as u32,
+            _ => 0,
+        }
+    }
+
+    /// The number from 1 up to its greatest that a word says.
+    pub fn number(self, word: &str) -> Option<u32>
+        ensures { result ≡ number_said self word.now }
+    {
+        number_in(self.greatest(), word)
     }
 
     /// What a value has to be, where it is neither a number, nor listed, nor any text; nothing where it is.

@@ -1,13 +1,15 @@
-//! What the values of options say that are neither listed nor numbers, and the numbers of `make`.
+//! What the values of options say, but for orders, and the numbers of `make`.
 
 ghost use Rattle.std.specs.Prelude.{◌≡◌, IfOk, Some, codes, option_map};
 ghost use Rattle.jx_options.specs.Choices.{bytes_in};
+ghost use Rattle.jx_options.specs.Names.{form_said, parts_said, reduce_said, rsiz_said};
 ghost use Rattle.jx_options.specs.Values.{precincts_said, seed_said, side_said, style_said};
 
 use crate::numbers::{long_number_in, number_in};
 use crate::options::PrecinctChoice;
 use crate::precincts::precincts_in;
 use crate::styles::style_in;
+use crate::{FormChoice, PartChoice, RsizChoice};
 use jx_base::{NoMemory, Style};
 use std::alloc::Global;
 
@@ -16,6 +18,64 @@ pub static SEEDS: &str = "0 to 18446744073709551615";
 
 /// The columns or rows that `make` takes.
 pub static SIDES: &str = "1 to 4096";
+
+/// Where a word says that tile-parts begin.
+pub fn parts_said(word: &str) -> Option<PartChoice>
+    ensures { result ≡ parts_said word.now }
+{
+    if word == "none" {
+        return Some(PartChoice::None);
+    }
+    if word == "r" {
+        return Some(PartChoice::Resolution);
+    }
+    if word == "l" {
+        return Some(PartChoice::Layer);
+    }
+    if word == "c" {
+        return Some(PartChoice::Component);
+    }
+    None
+}
+
+/// What a word says that is written of a JP2 file.
+pub fn form_said(word: &str) -> Option<FormChoice>
+    ensures { result ≡ form_said word.now }
+{
+    if word == "keep" {
+        return Some(FormChoice::Keep);
+    }
+    if word == "j2k" {
+        return Some(FormChoice::Codestream);
+    }
+    None
+}
+
+/// What profile a word has the file claim.
+pub fn rsiz_said(word: &str) -> Option<RsizChoice>
+    ensures { result ≡ rsiz_said word.now }
+{
+    if word == "zero" {
+        return Some(RsizChoice::Zero);
+    }
+    if word == "keep" {
+        return Some(RsizChoice::Keep);
+    }
+    None
+}
+
+/// How many of the highest resolutions a word leaves out, 0 to 32.
+pub fn reduce_said(word: &str) -> Option<u8>
+    ensures { result ≡ reduce_said word.now }
+{
+    if word == "0" {
+        return Some(0);
+    }
+    match number_in(32, word) {
+        Some(number) => Some(number as u8),
+        None => None,
+    }
+}
 
 /// The precincts that a word asks for (ITU-T T.800, Table A.21).
 pub fn precincts_said(alloc: Global, word: &str) -> Result<Option<PrecinctChoice>, NoMemory>

@@ -1,5 +1,8 @@
 //! How the work is done, of which the written file doesn't depend.
 
+ghost use Rattle.std.specs.Prelude.{◌≡◌};
+ghost use Rattle.jx_options.specs.Work.{default_work};
+
 use std::marker::Model;
 
 /// How the work is done.
@@ -21,4 +24,17 @@ impl Model for Work {
     ghost view = { λ w. record { threads = w.threads; window = w.window; most = w.most } };
 
     ghost inverse = { λ w. record { threads = w.threads; window = w.window; most = w.most } };
+}
+
+impl Work {
+    /// How it is done where no option is among the words.
+    pub fn by_default() -> Work
+        ensures { result ≡ default_work }
+    {
+        Work {
+            threads: 1,
+            window: 64,
+            most: 268_435_456,
+        }
+    }
 }

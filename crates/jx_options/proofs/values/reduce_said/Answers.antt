@@ -1,5 +1,5 @@
 use Rattle.std.proofs.Common.{arith, sym}
-use Rattle.jx_options.proofs.names.reduce_said.Goals as goal
+use Rattle.jx_options.proofs.values.reduce_said.Goals as goal
 use Rattle.jx_base.proofs.Texts.{number_read}
 
 pub overflow_cast-result : goal.overflow_cast-result
