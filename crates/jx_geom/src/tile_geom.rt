@@ -25,9 +25,7 @@ ghost use Rattle.jx_geom.specs.Sets.{HasPlace, InBand, InCell, InPart, InTile};
 ghost use Rattle.jx_base.specs.Limits.{most_blocks};
 
 use crate::grid::{BlockGrid, grid_of};
-use crate::rects::{
-    blocks_of, point_of_precinct, precinct_blocks_of, precincts_of, tile_of,
-};
+use crate::rects::{blocks_of, point_of_precinct, precinct_blocks_of, precincts_of, tile_of};
 use crate::shape::{Canvas, CompShape};
 use crate::shapes::Shapes;
 use crate::table::{Resolution, Table, table_of};
