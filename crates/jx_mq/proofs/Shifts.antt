@@ -79,7 +79,7 @@ refilled_fed bytes n r none less =
     rw (eq-eqb r.ct 0 none, ne_eqb (mq_byte_in bytes r).ct 0 (omega arith)) refl in
     refilled_more bytes n (mq_byte_in bytes r) (omega arith) ∙ rw fed refl ∙ sym (refilled_more bytes n r less)
 
-product_of : (i j n : ℕ) → i + j ≡ n → 2 ^ i * 2 ^ j ≡ 2 ^ n
+pub product_of : (i j n : ℕ) → i + j ≡ n → 2 ^ i * 2 ^ j ≡ 2 ^ n
 product_of i j n e = sym (pow-add 2 i j) ∙ ap (λ (m : ℕ). 2 ^ m) e
 
 -- shifts in two parts

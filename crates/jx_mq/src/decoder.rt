@@ -231,10 +231,10 @@ impl<'a> MqDecoder<'a> {
         ensures reader { self.new.reader ≡ mq_read self.old.bytes self.old.reader (mq_row_of contexts.old label).qe }
     {
         let state = contexts.state(label);
-        let qe = width_of(state);
+        let qe = width_of(state) as u32;
         let is_mps = self.registers.reads_mps(qe);
         let part = self.registers.chosen(qe);
-        contexts.adapt(label, state, part.a, is_mps);
+        contexts.adapt(label, state, part.a as u64, !is_mps as u64);
         self.registers.refill(part, self.bytes);
         (state % 2 == 1) == is_mps
     }
