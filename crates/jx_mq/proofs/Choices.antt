@@ -1,5 +1,5 @@
 -- Choices of a number by arithmetic.
-use Rattle.std.proofs.Common.{◌≡◌, ◌<◌, ◌+◌, ◌-◌, ◌*◌, ◌/◌, ◌%◌, ℕ, zero, suc, Bool, true, false, not, ◌==◌, if◌then◌else◌, refl, sym, ◌∙◌, arith, inl, inr, ltb, bit_and, bit_xor}
+use Rattle.std.proofs.Common.{◌≡◌, ◌<◌, ◌+◌, ◌-◌, ◌*◌, ◌/◌, ◌%◌, ℕ, zero, suc, Bool, true, false, not, ◌==◌, if◌then◌else◌, refl, ◌∙◌, arith, inl, inr, ltb, bit_and, bit_xor}
 use Rattle.std.proofs.lemmas.Bool.{cases_eq, cases_lt, lt-ltb, le-ltb, eq-eqb, ne_eqb}
 use mir.Val.{bool_byte}
 use Rattle.std.proofs.lemmas.Nat.{and_mask, and_comm, xor_shr}
@@ -46,7 +46,7 @@ symbol_is state symbol bit few e =
     ]
 
 -- the top bit of a word, turned by a state's last bit
-turned_top : (word state : ℕ) → bit_xor word (state * 9223372036854775808 % 18446744073709551616) / 9223372036854775808 ≡ bit_xor (word / 9223372036854775808) (state % 2)
+pub turned_top : (word state : ℕ) → bit_xor word (state * 9223372036854775808 % 18446744073709551616) / 9223372036854775808 ≡ bit_xor (word / 9223372036854775808) (state % 2)
 turned_top word state =
     let low : state * 9223372036854775808 % 18446744073709551616 / 9223372036854775808 ≡ state % 2 = omega arith in
     xor_shr word (state * 9223372036854775808 % 18446744073709551616) 63 ∙ rw low refl
@@ -56,7 +56,7 @@ pub top_bit_is : (word state : ℕ) (symbol : Bool) → word < 18446744073709551
 top_bit_is word state symbol fits e = rw (turned_top word state) (symbol_is state symbol (word / 9223372036854775808) (omega arith) e)
 
 -- the sign of a difference, by its top bit
-sign_is : (x y : ℕ) → x < 9223372036854775808 → y < 9223372036854775808 → (x + (18446744073709551616 - y)) % 18446744073709551616 / 9223372036854775808 ≡ (if ltb x y then 1 else 0)
+pub sign_is : (x y : ℕ) → x < 9223372036854775808 → y < 9223372036854775808 → (x + (18446744073709551616 - y)) % 18446744073709551616 / 9223372036854775808 ≡ (if ltb x y then 1 else 0)
 sign_is x y fits fits' =
     elim (cases_lt x y) [
       | inl less ↦ rw (lt-ltb x y less) (omega arith)

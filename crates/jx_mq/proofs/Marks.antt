@@ -1,5 +1,5 @@
 -- The 1 above the encoder's C: what it tells, and that narrowing and shifts keep it.
-use Rattle.std.proofs.Common.{◌≡◌, ◌<◌, ◌≤◌, ◌+◌, ◌-◌, ◌*◌, ◌/◌, ◌%◌, ◌^◌, ℕ, suc, List, refl, ap, sym, ◌∙◌, arith, inl, inr}
+use Rattle.std.proofs.Common.{◌≡◌, ◌<◌, ◌≤◌, ◌+◌, ◌-◌, ◌*◌, ◌/◌, ◌%◌, ◌^◌, ℕ, suc, List, refl, ap, sym, arith, inl, inr}
 use Rattle.std.specs.Int.Count.{count_leading_zeros, leading_unique}
 use Rattle.std.proofs.lemmas.Nat.{pow_pos, mul-le}
 use Rattle.std.proofs.Math.Nat.{two-pow-succ, pow-le-pow_right, mul-lt-mul_of_pos_right}
@@ -84,16 +84,18 @@ whole_below c ct rest n m few =
     let powers : 2 ^ n ≤ 2 ^ 15 = pow-le-pow_right {n = 2} (omega arith) {i = n} {j = 15} (omega arith) in
     let some = pow_pos n in
     let fits : c * 2 ^ n ≤ 281474976710655 * 32768 = mul-le c (2 ^ n) 281474976710655 32768 (omega arith) (omega arith) in
-    let same : c * 2 ^ n % 18446744073709551616 ≡ c * 2 ^ n = omega arith in
-    (same, λ none. elim (cases_lt n ct) [
-      | inl less ↦ less
-      | inr over ↦
-          let p : 2 ^ (47 - ct) * 2 ^ n ≡ 2 ^ (47 - ct + n) = product_of (47 - ct) n (47 - ct + n) refl in
-          let b = m.most in
-          let q : 2 ^ 47 ≤ 2 ^ (47 - ct + n) = pow-le-pow_right {n = 2} (omega arith) {i = 47} {j = 47 - ct + n} (omega arith) in
-          let least : 2 ^ (47 - ct) * 2 ^ n ≤ c * 2 ^ n = mul-le (2 ^ (47 - ct)) (2 ^ n) c (2 ^ n) (omega arith) (omega arith) in
-          absurd (omega arith)
-    ])
+    let same : c * 2 ^ n % 18446744073709551616 ≡ c * 2 ^ n = omega arith in (
+      same,
+      λ none. elim (cases_lt n ct) [
+        | inl less ↦ less
+        | inr over ↦
+            let p : 2 ^ (47 - ct) * 2 ^ n ≡ 2 ^ (47 - ct + n) = product_of (47 - ct) n (47 - ct + n) refl in
+            let b = m.most in
+            let q : 2 ^ 47 ≤ 2 ^ (47 - ct + n) = pow-le-pow_right {n = 2} (omega arith) {i = 47} {j = 47 - ct + n} (omega arith) in
+            let least : 2 ^ (47 - ct) * 2 ^ n ≤ c * 2 ^ n = mul-le (2 ^ (47 - ct)) (2 ^ n) c (2 ^ n) (omega arith) (omega arith) in
+            absurd (omega arith)
+      ],
+    )
 
 pub marked_is : (c ct rest a : ℕ) (bytes : List ℕ) → IsMarked c ct rest → coder a (c_under c) (ct_under c) bytes ≡ coder a rest ct bytes
 marked_is c ct rest a bytes m = rw (ct_is c ct rest m, c_is c ct rest m) refl

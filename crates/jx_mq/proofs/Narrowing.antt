@@ -1,8 +1,8 @@
 -- The interval narrowed with a 1 above C, and what a decision leaves of A.
-use Rattle.std.proofs.Common.{◌≡◌, ◌<◌, ◌≤◌, ◌+◌, ◌-◌, ◌*◌, ◌/◌, ◌%◌, ◌^◌, ◌==◌, ℕ, zero, suc, Bool, true, false, List, refl, ap, sym, ◌∙◌, arith, ltb, inl, inr, if◌then◌else◌, bit_xor}
+use Rattle.std.proofs.Common.{◌≡◌, ◌<◌, ◌≤◌, ◌+◌, ◌-◌, ◌*◌, ◌/◌, ◌%◌, ◌^◌, ◌==◌, ℕ, zero, suc, Bool, true, false, List, refl, ◌∙◌, arith, ltb, inl, inr, if◌then◌else◌, bit_xor}
 use Rattle.std.proofs.lemmas.Bool.{cases_lt, cases_eq, eq-eqb, ne_eqb, lt-ltb, le-ltb, lt-leb, ltb-true, true≢false, false≢true}
 use Rattle.jx_coder_specs.specs.MqWriting.{MqWriter, mq_lower, mq_upper, mq_part}
-use Rattle.jx_mq.specs.Marking.{ct_under, c_under, IsMarked, HasMark}
+use Rattle.jx_mq.specs.Marking.{ct_under, c_under, HasMark}
 use Rattle.jx_mq.specs.States.{IsNarrowed}
 use Rattle.jx_mq.proofs.Bounds.{coder}
 use Rattle.jx_mq.proofs.Choices.{low_is}

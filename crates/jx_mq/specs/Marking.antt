@@ -1,5 +1,5 @@
 -- The encoder's registers between decisions: 65536 times C with a 1 above it, whose place tells CT.
-use Rattle.std.specs.Prelude.{◌≡◌, ◌<◌, ◌≤◌, ◌+◌, ◌-◌, ◌*◌, ◌/◌, ◌^◌, ℕ, List, ◌∷◌, reverse}
+use Rattle.std.specs.Prelude.{◌≡◌, ◌<◌, ◌+◌, ◌-◌, ◌*◌, ◌/◌, ◌^◌, ℕ, List, ◌∷◌, reverse}
 use Rattle.std.specs.Int.Count.{count_leading_zeros}
 use Rattle.jx_coder_specs.specs.MqWriting.{MqWriter}
 use Rattle.jx_mq.specs.declared.encoder.Marked.{Marked}

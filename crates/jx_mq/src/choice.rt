@@ -2,7 +2,7 @@ ghost use Rattle.std.specs.Prelude.{◌≡◌, ◌<◌, ◌==◌, if◌then◌el
 
 /// One of two numbers. As a choice of values it needs no branch.
 #[inline(always)]
-pub fn either(test: bool, one: u32, other: u32) -> u32
+pub fn either(test: bool, one: u64, other: u64) -> u64
     ensures { result ≡ (if test then one else other) }
 {
     if test { one } else { other }

@@ -249,7 +249,11 @@ impl Marked {
         ensures marked { OnOk result (HasMark self.new.c) }
         ensures wide { OnOk result (self.new.a % 65536 ≡ 0) }
     {
-        let part = Marked { a, c, newest: self.newest };
+        let part = Marked {
+            a,
+            c,
+            newest: self.newest,
+        };
         let last = part.opened().given_by(shifts, older)?;
         *self = Marked::over(last);
         Ok(())
