@@ -83,7 +83,6 @@ impl Registers {
         ensures ahead { result.ahead ≡ self.ahead + byte.width }
         ensures a { result.a ≡ self.a }
     {
-        let _length = bytes.len();
         let ahead = self.ahead + byte.width;
         let c = self.c - (1u64 << (46 - self.ahead))
             + (byte.value << (47 - ahead))
@@ -155,7 +154,6 @@ impl Registers {
         ensures ahead { ahead_under result.c + by ≡ ahead_under self.c }
         ensures a { result.a / 140737488355328 ≡ self.a / 140737488355328 * 2 ^ by }
     {
-        let _length = bytes.len();
         Registers {
             a: self.a << by,
             c: self.c << by & REGISTER,
@@ -234,7 +232,6 @@ impl Registers {
         requires most { qe ≤ self.a }
         ensures { (result / 9223372036854775808 == 0) ≡ mq_reads_mps (reader_of bytes.now self) (qe / 140737488355328) }
     {
-        let _length = bytes.len();
         (self.a - qe).wrapping_sub(qe) ^ self.c.wrapping_sub(qe)
     }
 
@@ -250,7 +247,6 @@ impl Registers {
         ensures some { 0 < result.a }
         ensures same { result ≡ record self { a = result.a; c = result.c } }
     {
-        let _length = bytes.len();
         let less = self.c.wrapping_sub(qe);
         let is_low = less >> 63 == 1;
         Registers {
