@@ -6,6 +6,7 @@ mod contexts;
 mod decoder;
 mod encoder;
 pub mod laws;
+mod stand;
 mod table;
 
 pub use contexts::Contexts;
