@@ -78,7 +78,7 @@ low_holds s r qe h wide most less =
     rw (chosen_low (reader_of s r) (qe / 140737488355328) low)
     (holds_by s (record r { a = qe }) (record (reader_of s r) { a = qe / 140737488355328 }) (ahead_under r.c) h.count
     (other_a s (reader_of s r) (qe / 140737488355328) r.c (ahead_under r.c) r.place h.count h.front) refl refl h.since
-    (record { most = h.most; wide = wide; room = omega arith; within = h.within; place = h.place; looked = h.looked; ct = h.ct }))
+    (record { most = h.most; past = h.past; wide = wide; room = omega arith; within = h.within; place = h.place; looked = h.looked; ct = h.ct }))
 
 high_holds : (s : List ℕ) (r : Registers) (qe : ℕ) → IsHeld s r → qe % 140737488355328 ≡ 0 → qe < r.a → qe ≤ r.c →
     Holds s (record r { a = r.a - qe; c = r.c - qe }) (mq_chosen (reader_of s r) (qe / 140737488355328)) (ahead_under r.c)
@@ -94,7 +94,7 @@ high_holds s r qe h wide most over =
     (holds_by s (record r { a = r.a - qe; c = r.c - qe })
     (record (reader_of s r) { a = (reader_of s r).a - qe / 140737488355328; c = (reader_of s r).c - qe / 140737488355328 * 65536 }) (ahead_under r.c) h.count
     (rw e at front) refl (omega arith) h.since
-    (record { most = h.most; wide = omega arith; room = omega arith; within = h.within; place = h.place; looked = h.looked; ct = h.ct }))
+    (record { most = h.most; past = h.past; wide = omega arith; room = omega arith; within = h.within; place = h.place; looked = h.looked; ct = h.ct }))
 
 -- the part that is chosen by the sign of the difference
 pub chosen_holds : (s : List ℕ) (r : Registers) (qe sign a c : ℕ) → IsHeld s r → qe % 140737488355328 ≡ 0 → qe < r.a → sign ≡ (if ltb r.c qe then 1 else 0) →

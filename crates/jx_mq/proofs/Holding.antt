@@ -23,6 +23,7 @@ told s a c ahead place n x r h e f = rw (e, f, (seen_of s r c ahead place n h).a
 -- bounds that hold of the registers whatever was read
 pub record AreBounded (s : List ℕ) (r : Registers) : Type 0 where
   pub most : r.ahead ≤ 46
+  pub past : r.past ≤ 1046
   pub wide : r.a % 140737488355328 ≡ 0
   pub room : r.a < 9223372036854775808
   pub within : r.place ≤ length s
@@ -35,13 +36,13 @@ pub record Holds (s : List ℕ) (r : Registers) (standard : MqReader) (bits : �
   pub held : IsHeld s r
   pub ahead : ahead_under r.c ≡ bits
 
-pub holds_by : (s : List ℕ) (r : Registers) (reader : MqReader) (ahead n : ℕ) → IsAhead s reader r.c ahead r.place n → stands s (r.ahead - ahead) (stand_now r.stand) ≡ stand_of reader →
+pub holds_by : (s : List ℕ) (r : Registers) (reader : MqReader) (ahead n : ℕ) → IsAhead s reader r.c ahead r.place n → stands s (r.past + (r.ahead - ahead)) (stand_now r.stand) ≡ stand_of reader →
     r.a / 140737488355328 ≡ reader.a → ahead ≤ r.ahead → AreBounded s r → Holds s r reader ahead
 holds_by s r reader ahead n h stand a since bounds =
     let under : ahead_under r.c ≡ ahead = under_ahead s reader r.c ahead r.place n h in
     let zeros : count_trailing_zeros 64 r.c ≡ 46 - ahead = zeros_ahead s reader r.c ahead r.place n h in
-    let there : stands s (r.ahead - ahead_under r.c) (stand_now r.stand) ≡ stand_of reader = rw under stand in
-    let is : reader_of s r ≡ reader = told s r.a r.c ahead r.place n (stands s (r.ahead - ahead_under r.c) (stand_now r.stand)) reader h there a in
+    let there : stands s (r.past + (r.ahead - ahead_under r.c)) (stand_now r.stand) ≡ stand_of reader = rw under stand in
+    let is : reader_of s r ≡ reader = told s r.a r.c ahead r.place n (stands s (r.past + (r.ahead - ahead_under r.c)) (stand_now r.stand)) reader h there a in
     record {
       reader = is;
       held = record {
@@ -50,6 +51,7 @@ holds_by s r reader ahead n h stand a since bounds =
         zeros = omega arith;
         since = omega arith;
         most = bounds.most;
+        past = bounds.past;
         wide = bounds.wide;
         room = bounds.room;
         within = bounds.within;
@@ -65,14 +67,23 @@ unfolding stands
 stands_none s k x none = rw none refl
 
 -- where the standard's decoder stands now
-pub settled_holds : (s : List ℕ) (r : Registers) (stand : Stand) (ahead : ℕ) → IsHeld s r → ahead ≡ ahead_under r.c → stand_now stand ≡ stands s (r.ahead - ahead) (stand_now r.stand) →
-    stand.place ≤ length s → stand.looked ≤ stand.place + 2 → stand.ct ≤ 8 → Holds s (record r { stand = stand; ahead = ahead }) (reader_of s r) ahead
-settled_holds s r stand ahead h e is place looked ct =
+pub stood_holds : (s : List ℕ) (r : Registers) (stand : Stand) (ahead : ℕ) → IsHeld s r → ahead ≡ ahead_under r.c → stand_now stand ≡ stands s (r.past + (r.ahead - ahead)) (stand_now r.stand) →
+    stand.place ≤ length s → stand.looked ≤ stand.place + 2 → stand.ct ≤ 8 → Holds s (record r { stand = stand; past = 0; ahead = ahead }) (reader_of s r) ahead
+stood_holds s r stand ahead h e is place looked ct =
     let since = h.since in
     let most = h.most in
-    holds_by s (record r { stand = stand; ahead = ahead }) (reader_of s r) ahead h.count (subst (λ (x : ℕ). IsAhead s (reader_of s r) r.c x r.place h.count) (sym e) h.front)
-    (stands_none s (ahead - ahead) (stand_now stand) (omega arith) ∙ is ∙ ap (λ (x : ℕ). stands s (r.ahead - x) (stand_now r.stand)) e) refl (omega arith)
-    (record { most = omega arith; wide = h.wide; room = h.room; within = h.within; place = place; looked = looked; ct = ct })
+    holds_by s (record r { stand = stand; past = 0; ahead = ahead }) (reader_of s r) ahead h.count (subst (λ (x : ℕ). IsAhead s (reader_of s r) r.c x r.place h.count) (sym e) h.front)
+    (stands_none s (0 + (ahead - ahead)) (stand_now stand) (omega arith) ∙ is ∙ ap (λ (x : ℕ). stands s (r.past + (r.ahead - x)) (stand_now r.stand)) e) refl (omega arith)
+    (record { most = omega arith; past = omega arith; wide = h.wide; room = h.room; within = h.within; place = place; looked = looked; ct = ct })
+
+pub settled_holds : (s : List ℕ) (r : Registers) (ahead : ℕ) → IsHeld s r → ahead ≡ ahead_under r.c → r.past ≤ 1000 → Holds s (record r { past = r.past + (r.ahead - ahead); ahead = ahead }) (reader_of s r) ahead
+settled_holds s r ahead h e few =
+    let since = h.since in
+    let most = h.most in
+    let same : r.past + (r.ahead - ahead) + (ahead - ahead) ≡ r.past + (r.ahead - ahead_under r.c) = omega arith in
+    holds_by s (record r { past = r.past + (r.ahead - ahead); ahead = ahead }) (reader_of s r) ahead h.count (subst (λ (x : ℕ). IsAhead s (reader_of s r) r.c x r.place h.count) (sym e) h.front)
+    (ap (λ (x : ℕ). stands s x (stand_now r.stand)) same) refl (omega arith)
+    (record { most = omega arith; past = omega arith; wide = h.wide; room = h.room; within = h.within; place = h.place; looked = h.looked; ct = h.ct })
 
 -- the code's sums have room
 pub record IsCoded (c v w e : ℕ) : Type 0 where
@@ -113,19 +124,19 @@ with_holds s r t c h settled is within plain fits room =
       holds = λ e.
           holds_by s (record r { c = c; ahead = r.ahead + t.width; place = t.place }) (reader_of s r) (r.ahead + t.width) (suc h.count)
           (subst (λ (x : ℕ). IsAhead s (reader_of s r) x (r.ahead + t.width) t.place (suc h.count)) (sym (e ∙ k.is)) more.ahead)
-          (stands_none s (r.ahead + t.width - (r.ahead + t.width)) (stand_now r.stand) (omega arith) ∙ sym (stands_none s (r.ahead - ahead_under r.c) (stand_now r.stand) (omega arith))) refl (omega arith)
-          (record { most = omega arith; wide = h.wide; room = h.room; within = within; place = h.place; looked = h.looked; ct = h.ct });
+          (ap (λ (x : ℕ). stands s x (stand_now r.stand)) (let same : r.past + (r.ahead + t.width - (r.ahead + t.width)) ≡ r.past + (r.ahead - ahead_under r.c) = omega arith in same)) refl (omega arith)
+          (record { most = omega arith; past = h.past; wide = h.wide; room = h.room; within = within; place = h.place; looked = h.looked; ct = h.ct });
     }
 
 -- BYTEIN
 pub record IsFedWith (s : List ℕ) (r : Registers) (t : MqTaken) (stand : Stand) (c : ℕ) : Type 0 where
   pub coded : IsCoded r.c t.value t.width 0
   pub holds : c ≡ bit_and (r.c - 1 * 2 ^ 46 % 18446744073709551616 + t.value * 2 ^ (47 - t.width) % 18446744073709551616 + 1 * 2 ^ (46 - t.width) % 18446744073709551616) 9223372036854775807 →
-      Holds s (record r { c = c; stand = stand; ahead = t.width; place = t.place }) (mq_byte_in s (reader_of s r)) t.width
+      Holds s (record r { c = c; stand = stand; past = 0; ahead = t.width; place = t.place }) (mq_byte_in s (reader_of s r)) t.width
 
-pub fed_holds : (s : List ℕ) (r : Registers) (t : MqTaken) (stand : Stand) (c : ℕ) → IsHeld s r → r.ahead ≡ ahead_under r.c → r.ahead ≡ 0 → t ≡ mq_taken s r.place → t.place ≤ length s → t.value < 256 →
+pub fed_holds : (s : List ℕ) (r : Registers) (t : MqTaken) (stand : Stand) (c : ℕ) → IsHeld s r → r.ahead ≡ ahead_under r.c → r.ahead ≡ 0 → r.past ≡ 0 → t ≡ mq_taken s r.place → t.place ≤ length s → t.value < 256 →
     stand_now stand ≡ stand_fed s (stand_now r.stand) → stand.place ≤ length s → stand.looked ≤ stand.place + 2 → stand.ct ≤ 8 → IsFedWith s r t stand c
-fed_holds s r t stand c h settled due is within fits fed place looked ct =
+fed_holds s r t stand c h settled due gone is within fits fed place looked ct =
     let w = taken_width s r.place in
     let narrow : t.width < 9 = subst (λ (x : MqTaken). x.width < 9) (sym is) w.1 in
     let none : ahead_under r.c ≡ 0 = omega arith in
@@ -142,11 +153,11 @@ fed_holds s r t stand c h settled due is within fits fed place looked ct =
       coded = k;
       holds = λ e.
           let whole : c ≡ (r.c - 2 ^ 46 + t.value * 2 ^ (47 - t.width) + 2 ^ (46 - t.width)) % 9223372036854775808 = e ∙ and_mask _ 63 ∙ ap (λ (x : ℕ). x % 9223372036854775808) sum in
-          holds_by s (record r { c = c; stand = stand; ahead = t.width; place = t.place }) (mq_byte_in s (reader_of s r)) t.width 0
+          holds_by s (record r { c = c; stand = stand; past = 0; ahead = t.width; place = t.place }) (mq_byte_in s (reader_of s r)) t.width 0
           (subst (λ (x : ℕ). IsAhead s (mq_byte_in s (reader_of s r)) x t.width t.place 0) (sym whole) more.ahead)
-          (stands_none s (t.width - t.width) (stand_now stand) (omega arith) ∙ fed ∙ ap (λ (x : MqStand). stand_fed s x) (sym (stands_none s (r.ahead - ahead_under r.c) (stand_now r.stand) (omega arith))) ∙
+          (stands_none s (0 + (t.width - t.width)) (stand_now stand) (omega arith) ∙ fed ∙ ap (λ (x : MqStand). stand_fed s x) (sym (stands_none s (r.past + (r.ahead - ahead_under r.c)) (stand_now r.stand) (omega arith))) ∙
           sym (stand_fed_is s (reader_of s r))) (sym (byte_in_a s (reader_of s r))) (omega arith)
-          (record { most = omega arith; wide = h.wide; room = h.room; within = within; place = place; looked = looked; ct = ct });
+          (record { most = omega arith; past = omega arith; wide = h.wide; room = h.room; within = within; place = place; looked = looked; ct = ct });
     }
 
 -- shifts of A at the top of 63 bits
@@ -171,12 +182,12 @@ shifted_holds s r by a c h within room a_is c_is =
     let a_whole : a ≡ r.a * 2 ^ by = (let fits = high.room in omega arith) in
     let c_whole : c ≡ r.c * 2 ^ by % 9223372036854775808 = c_is ∙ and_mask (r.c * 2 ^ by % 18446744073709551616) 63 ∙ omega arith in
     let front = shifts_ahead s by (reader_of s r) r.c (ahead_under r.c) r.place h.count within h.front in
-    let e : r.ahead - (ahead_under r.c - by) ≡ r.ahead - ahead_under r.c + by = omega arith in
+    let e : r.past + (r.ahead - (ahead_under r.c - by)) ≡ r.past + (r.ahead - ahead_under r.c) + by = omega arith in
     rw (a_whole, c_whole)
     (holds_by s (record r { a = r.a * 2 ^ by; c = r.c * 2 ^ by % 9223372036854775808 }) (mq_shifts s by (reader_of s r)) (ahead_under r.c - by) front.0 front.1
-    (ap (λ (k : ℕ). stands s k (stand_now r.stand)) e ∙ stands_more s (r.ahead - ahead_under r.c) by (stand_now r.stand) ∙ sym (stand_of_shifts s by (reader_of s r)))
+    (ap (λ (k : ℕ). stands s k (stand_now r.stand)) e ∙ stands_more s (r.past + (r.ahead - ahead_under r.c)) by (stand_now r.stand) ∙ sym (stand_of_shifts s by (reader_of s r)))
     (high.upper ∙ sym (shifts_a s by (reader_of s r))) (omega arith)
-    (record { most = h.most; wide = high.wide; room = high.room; within = h.within; place = h.place; looked = h.looked; ct = h.ct }))
+    (record { most = h.most; past = h.past; wide = high.wide; room = high.room; within = h.within; place = h.place; looked = h.looked; ct = h.ct }))
 
 -- how many shifts A needs, by its leading zeros
 pub short_high : (a : ℕ) → a % 140737488355328 ≡ 0 → 0 < a → a < 9223372036854775808 → (1 ≤ count_leading_zeros 64 a) × IsShort (a / 140737488355328) (count_leading_zeros 64 a - 1)

@@ -111,6 +111,7 @@ pub record IsFirst (b : ℕ) (t : MqTaken) (r : Registers) : Type 0 where
   pub a : r.a ≡ 4611686018427387904
   pub c : r.c ≡ bit_and ((b * 2 ^ 47 % 18446744073709551616 + t.value * 2 ^ (47 - t.width) % 18446744073709551616) * 2 ^ 7 % 18446744073709551616) 9223372036854775807 + 1 * 2 ^ (53 - t.width) % 18446744073709551616
   pub stand : stand_now r.stand ≡ record { ct = t.width - 7; place = t.place; looked = 2 }
+  pub past : r.past ≡ 0
   pub ahead : r.ahead ≡ t.width - 7
   pub place : r.place ≡ t.place
 
@@ -128,6 +129,7 @@ first_at s t r is fits fits' within f =
     let front = first_ahead s r.c standard top t.width t.place wide narrow c_is cs.1 (omega arith) in
     let a = f.a in
     let ahead = f.ahead in
+    let past = f.past in
     let place = f.place in
     let stand = f.stand in
     let ct : r.stand.ct ≡ t.width - 7 = ap (λ (x : MqStand). x.ct) stand in
@@ -136,8 +138,8 @@ first_at s t r is fits fits' within f =
     subst (λ (x : MqReader). Holds s r x (t.width - 7)) (sym (started s t is))
     (holds_by s r (record { a = 32768; c = standard; ct = t.width - 7; place = t.place; looked = 2 }) (t.width - 7) 0
     (subst (λ (x : ℕ). IsAhead s (record { a = 32768; c = standard; ct = t.width - 7; place = t.place; looked = 2 }) r.c (t.width - 7) x 0) (sym place) front)
-    (stands_none s (r.ahead - (t.width - 7)) (stand_now r.stand) (omega arith) ∙ stand) (rw a refl) (omega arith)
-    (record { most = omega arith; wide = rw a refl; room = omega arith; within = omega arith; place = omega arith; looked = omega arith; ct = omega arith }))
+    (stands_none s (r.past + (r.ahead - (t.width - 7))) (stand_now r.stand) (omega arith) ∙ stand) (rw a refl) (omega arith)
+    (record { most = omega arith; past = omega arith; wide = rw a refl; room = omega arith; within = omega arith; place = omega arith; looked = omega arith; ct = omega arith }))
 
 pub first_holds : (s : List ℕ) (t : MqTaken) (b : ℕ) (r : Registers) → t ≡ mq_taken s 0 → b ≡ mq_byte s 0 → b < 256 → t.value < 256 → t.place ≤ length s → IsFirst b t r → Holds s r (mq_reader s) (t.width - 7)
 first_holds s t b r is b_is fits fits' within f =

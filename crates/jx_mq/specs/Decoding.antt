@@ -18,9 +18,9 @@ stand_now s = record { ct = s.ct; place = s.place; looked = s.looked }
 abbrev pub taken_as : Taken → MqTaken
 taken_as t = record { value = t.value; width = t.width; place = t.place }
 
--- the registers that the code's stand for: bytes were read ahead so many shifts ago as fewer bits are ahead now than then
+-- the registers that the code's stand for: since bytes were read ahead there were as many shifts as fewer bits are ahead now than then
 abbrev pub reader_of : List ℕ → Registers → MqReader
-reader_of bytes r = reader_with r.a r.c (stands bytes (r.ahead - ahead_under r.c) (stand_now r.stand))
+reader_of bytes r = reader_with r.a r.c (stands bytes (r.past + (r.ahead - ahead_under r.c)) (stand_now r.stand))
 
 -- the code's registers stand for those
 pub record IsHeld (bytes : List ℕ) (r : Registers) : Type 0 where
@@ -29,6 +29,7 @@ pub record IsHeld (bytes : List ℕ) (r : Registers) : Type 0 where
   pub zeros : count_trailing_zeros 64 r.c ≤ 46
   pub since : ahead_under r.c ≤ r.ahead
   pub most : r.ahead ≤ 46
+  pub past : r.past ≤ 1046
   pub wide : r.a % 140737488355328 ≡ 0
   pub room : r.a < 9223372036854775808
   pub within : r.place ≤ length bytes

@@ -16,13 +16,14 @@ use std::marker::Model;
 const REGISTER: u64 = 0x7FFF_FFFF_FFFF_FFFF;
 
 /// A, with its 16 bits at the top of 63, and C: below its 16 bits that are compared stand CT bits and those of bytes that
-/// were read ahead, and below them a 1. Beside them is where the standard's decoder stood when bytes were last read ahead,
-/// how many bits were ahead then, and the place of B after those bytes.
+/// were read ahead, and below them a 1. Beside them is where the standard's decoder stood some shifts ago: how many it had
+/// done since when bytes were last read ahead, how many bits were ahead then, and the place of B after those bytes.
 #[derive(Clone, Copy, Drop)]
 struct Registers {
     a: u64,
     c: u64,
     stand: Stand,
+    past: u32,
     ahead: u32,
     place: usize,
 }
@@ -38,6 +39,28 @@ impl Registers {
     }
 
     /// The same registers, with where the standard's decoder stands now.
+    fn stood(self, bytes: &[u8]) -> Registers
+        requires { IsHeld bytes.now self }
+        ensures reader { reader_of bytes.now result ≡ reader_of bytes.now self }
+        ensures held { IsHeld bytes.now result }
+        ensures settled { result.ahead ≡ ahead_under result.c }
+        ensures past { result.past ≡ 0 }
+        ensures a { result.a ≡ self.a }
+        ensures c { result.c ≡ self.c }
+    {
+        let ahead = self.bits_ahead();
+        let stand = self.stand.moved(self.past + (self.ahead - ahead), bytes);
+        Registers {
+            a: self.a,
+            c: self.c,
+            stand,
+            past: 0,
+            ahead,
+            place: self.place,
+        }
+    }
+
+    /// The same registers, with how many bits are ahead now. The bytes between are gone over once in a while.
     #[inline(always)]
     fn settled(self, bytes: &[u8]) -> Registers
         requires { IsHeld bytes.now self }
@@ -47,12 +70,15 @@ impl Registers {
         ensures a { result.a ≡ self.a }
         ensures c { result.c ≡ self.c }
     {
+        if self.past > 1000 {
+            return self.stood(bytes);
+        }
         let ahead = self.bits_ahead();
-        let stand = self.stand.moved(self.ahead - ahead, bytes);
         Registers {
             a: self.a,
             c: self.c,
-            stand,
+            stand: self.stand,
+            past: self.past + (self.ahead - ahead),
             ahead,
             place: self.place,
         }
@@ -63,7 +89,7 @@ impl Registers {
         requires { IsHeld bytes.now self }
         ensures { result ≡ (reader_of bytes.now self).looked }
     {
-        let now = self.settled(bytes);
+        let now = self.stood(bytes);
         now.stand.looked
     }
 
@@ -91,6 +117,7 @@ impl Registers {
             a: self.a,
             c,
             stand: self.stand,
+            past: self.past,
             ahead,
             place: byte.place,
         }
@@ -123,6 +150,7 @@ impl Registers {
         requires held { IsHeld bytes.now self }
         requires settled { self.ahead ≡ ahead_under self.c }
         requires due { self.ahead ≡ 0 }
+        requires past { self.past ≡ 0 }
         ensures reader { reader_of bytes.now result ≡ mq_byte_in bytes.now (reader_of bytes.now self) }
         ensures held { IsHeld bytes.now result }
         ensures settled { result.ahead ≡ ahead_under result.c }
@@ -138,6 +166,7 @@ impl Registers {
             a: self.a,
             c: c & REGISTER,
             stand,
+            past: 0,
             ahead: byte.width,
             place: byte.place,
         }
@@ -158,6 +187,7 @@ impl Registers {
             a: self.a << by,
             c: self.c << by & REGISTER,
             stand: self.stand,
+            past: self.past,
             ahead: self.ahead,
             place: self.place,
         }
@@ -177,7 +207,7 @@ impl Registers {
         while left > now.ahead {
             let by = now.ahead;
             let moved = now.shifted(by, bytes);
-            let due = moved.settled(bytes);
+            let due = moved.stood(bytes);
             let fed = due.fed(bytes);
             now = fed.filled(bytes);
             left -= by;
@@ -253,6 +283,7 @@ impl Registers {
             a: either(is_low, qe, self.a - qe),
             c: either(is_low, self.c, less),
             stand: self.stand,
+            past: self.past,
             ahead: self.ahead,
             place: self.place,
         }
@@ -292,6 +323,7 @@ impl<'a> MqDecoder<'a> {
             a: 1 << 62,
             c: c + (1 << (53 - byte.width)),
             stand,
+            past: 0,
             ahead: byte.width - 7,
             place: byte.place,
         };

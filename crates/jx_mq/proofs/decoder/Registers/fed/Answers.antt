@@ -11,7 +11,7 @@ returns-clause-reader c =
     let h = c.requires in
     let byte = c.byte_in-byte.ensures in
     let stand = c.fed-stand.ensures in
-    let fed = fed_holds c.args.bytes.now c.args.self (taken_as c.byte_in-byte.result) c.fed-stand.result _ h.held h.settled h.due byte.taken byte.within byte.byte stand.stand stand.within stand.looked stand.ct in
+    let fed = fed_holds c.args.bytes.now c.args.self (taken_as c.byte_in-byte.result) c.fed-stand.result _ h.held h.settled h.due h.past byte.taken byte.within byte.byte stand.stand stand.within stand.looked stand.ct in
     (fed.holds refl).reader
 
 pub returns-clause-held : goal.returns-clause-held
@@ -19,7 +19,7 @@ returns-clause-held c =
     let h = c.requires in
     let byte = c.byte_in-byte.ensures in
     let stand = c.fed-stand.ensures in
-    let fed = fed_holds c.args.bytes.now c.args.self (taken_as c.byte_in-byte.result) c.fed-stand.result _ h.held h.settled h.due byte.taken byte.within byte.byte stand.stand stand.within stand.looked stand.ct in
+    let fed = fed_holds c.args.bytes.now c.args.self (taken_as c.byte_in-byte.result) c.fed-stand.result _ h.held h.settled h.due h.past byte.taken byte.within byte.byte stand.stand stand.within stand.looked stand.ct in
     (fed.holds refl).held
 
 pub returns-clause-settled : goal.returns-clause-settled
@@ -27,5 +27,5 @@ returns-clause-settled c =
     let h = c.requires in
     let byte = c.byte_in-byte.ensures in
     let stand = c.fed-stand.ensures in
-    let fed = fed_holds c.args.bytes.now c.args.self (taken_as c.byte_in-byte.result) c.fed-stand.result _ h.held h.settled h.due byte.taken byte.within byte.byte stand.stand stand.within stand.looked stand.ct in
+    let fed = fed_holds c.args.bytes.now c.args.self (taken_as c.byte_in-byte.result) c.fed-stand.result _ h.held h.settled h.due h.past byte.taken byte.within byte.byte stand.stand stand.within stand.looked stand.ct in
     sym (fed.holds refl).ahead

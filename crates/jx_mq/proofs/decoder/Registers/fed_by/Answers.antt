@@ -32,10 +32,10 @@ loop-now-preserved c =
     let by : ℕ = c.loop-now.now.ahead in
     let r : MqReader = reader_of c.args.bytes.now c.loop-now.now in
     let i = c.loop-now.invariant in
-    let due : reader_of c.args.bytes.now c.settled-due.result ≡ mq_shifts c.args.bytes.now by r = c.settled-due.ensures.reader ∙ c.shifted-moved.ensures.reader in
+    let due : reader_of c.args.bytes.now c.stood-due.result ≡ mq_shifts c.args.bytes.now by r = c.stood-due.ensures.reader ∙ c.shifted-moved.ensures.reader in
     let now : reader_of c.args.bytes.now c.filled-now.result ≡ mq_byte_in c.args.bytes.now (mq_shifts c.args.bytes.now by r) =
     c.filled-now.ensures.reader ∙ c.fed-fed.ensures.reader ∙ ap (λ (x : MqReader). mq_byte_in c.args.bytes.now x) due in
-    let none : (mq_shifts c.args.bytes.now by r).ct ≡ 0 = ap (λ (x : MqReader). x.ct) (sym due) ∙ due_ct c.args.bytes.now c.settled-due.result c.settled-due.ensures.held (let e = c.shifted-moved.ensures.ahead in let f = i.settled in let g = c.settled-due.ensures.c in rw g (omega arith)) in
+    let none : (mq_shifts c.args.bytes.now by r).ct ≡ 0 = ap (λ (x : MqReader). x.ct) (sym due) ∙ due_ct c.args.bytes.now c.stood-due.result c.stood-due.ensures.held (let e = c.shifted-moved.ensures.ahead in let f = i.settled in let g = c.stood-due.ensures.c in rw g (omega arith)) in
     let a : (reader_of c.args.bytes.now c.filled-now.result).a ≡ r.a * 2 ^ by = ap (λ (x : MqReader). x.a) now ∙ byte_in_a c.args.bytes.now (mq_shifts c.args.bytes.now by r) ∙ shifts_a c.args.bytes.now by r in
     record {
       leads = λ n enough.
