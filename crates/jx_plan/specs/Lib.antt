@@ -1,3 +1,7 @@
+pub mod Layers
+pub mod Crowded
+pub mod Facts
+pub mod Causal
 pub mod Headers
 pub mod Fits
 pub mod Groups
@@ -13,3 +17,4 @@ pub mod Questions
 pub mod ReadBack
 pub mod TileJobs
 pub mod Steps
+pub mod Sent

@@ -37,7 +37,7 @@ ghost use Rattle.jx_plan.specs.Groups.{groups_of, key_of};
 ghost use Rattle.jx_options.specs.Wanted.{MayBeWanted, Wanted};
 ghost use Rattle.jx_plan.specs.declared.faults.PlanFault.{PlanFault};
 ghost use Rattle.jx_codeblock.specs.Written.{block_asked, is_wrong};
-ghost use Rattle.jx_layers.specs.Causal.{first_broken};
+ghost use Rattle.jx_plan.specs.Causal.{first_broken};
 ghost use Rattle.jx_plan.specs.Meaning.{meaning_of};
 ghost use Rattle.jx_plan.specs.Plan.{IsPlan, MayBePlanned, Plan, headers_with};
 ghost use Rattle.jx_plan.specs.Planned.{CanBePlannedBy, HasPlanCause, IsCrowded, IsFreeBy, IsPlanned, IsPlannedBy, MakesLayers, blocks_written, layers_of_rule};
@@ -47,8 +47,8 @@ ghost use Rattle.jx_options.specs.declared.PartChoice.TheVariants as part_choice
 ghost use Rattle.jx_plan.specs.declared.faults.PlanFault.TheVariants as plan_fault;
 ghost use Rattle.jx_base.specs.Limits.{most_bytes};
 
+use crate::layer_laws::{blocks_are_written, crowds_are_told, jobs_have_these_ends};
 use jx_codeblock::laws::{written_in_layers, written_in_own_layers};
-use jx_layers::laws::{blocks_are_written, crowds_are_told, jobs_have_these_ends};
 
 /// The headers of a stream that was read stand in its file.
 pub fn read_headers_stand()
