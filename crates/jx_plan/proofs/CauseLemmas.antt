@@ -16,7 +16,7 @@ use Rattle.jx_plan.specs.declared.faults.PlanFault.{PlanFault}
 use Rattle.jx_plan.specs.declared.faults.PlanFault.TheVariants as fault
 use Rattle.jx_plan.specs.Causal.{first_broken}
 use Rattle.jx_plan.specs.Fits.{AreUnfit, Fits, IsUnfit}
-use Rattle.jx_plan.specs.Groups.{HasFewEntries, HasFewParts, HasManyEntries, IsPartedAt}
+use Rattle.jx_tile_parts.specs.Groups.{HasFewEntries, HasFewParts, HasManyEntries, IsPartedAt}
 use Rattle.jx_plan.specs.Profile.{unclaimed}
 use Rattle.jx_plan.specs.Causes.{HasManyPartsAt, IsFree, IsLate, IsPlaneBroken, PassesPackets}
 use Rattle.jx_plan.specs.Layers.{AreJobs}

@@ -32,5 +32,4 @@ mod QuestionLemmas
 mod AnswerLemmas
 mod PlannedLemmas
 mod FitLemmas
-pub mod GroupLemmas
 mod PartedLemmas

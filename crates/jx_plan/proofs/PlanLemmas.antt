@@ -29,7 +29,7 @@ use Rattle.jx_tile.specs.Totals.{block_total, packet_total, totals_fault}
 use Rattle.jx_plan.specs.Causal.{breaks_plane, first_broken}
 use Rattle.jx_plan.specs.Facts.{most_layers}
 use Rattle.jx_plan.specs.Fits.{Fits}
-use Rattle.jx_plan.specs.Groups.{HasFewParts}
+use Rattle.jx_tile_parts.specs.Groups.{HasFewParts}
 use Rattle.jx_plan.specs.Headers.{MayBeInHeaders, with_layers}
 use Rattle.jx_plan.specs.Plan.{MayBePlanned, headers_with, most_packets}
 use Rattle.jx_options.specs.Wanted.{MayBeStyle, MayBeWanted, Wanted}

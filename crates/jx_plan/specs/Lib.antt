@@ -4,7 +4,6 @@ pub mod Facts
 pub mod Causal
 pub mod Headers
 pub mod Fits
-pub mod Groups
 pub mod Profile
 pub mod Standing
 pub mod Asides

@@ -27,6 +27,5 @@ pub use faults::{Misfit, PlanFault};
 pub use fitting::{check_precincts, first_misfit};
 pub use lending::shortened;
 pub use out_stream::OutStream;
-pub use parting::{count_parts, part_end};
 pub use planning::plan_served;
 pub use profile::first_unmet;

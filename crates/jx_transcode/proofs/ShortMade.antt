@@ -50,7 +50,7 @@ use Rattle.jx_plan.specs.Layers.{ends_of, written_by}
 use Rattle.jx_layers.specs.Rule.{Rule}
 use Rattle.jx_options.specs.declared.PartChoice.TheVariants as part
 use Rattle.jx_options.specs.declared.Marks.{Marks}
-use Rattle.jx_plan.specs.Groups.{groups_of}
+use Rattle.jx_tile_parts.specs.Groups.{groups_of}
 use Rattle.jx_plan.specs.Headers.{stream_written}
 use Rattle.jx_plan.specs.Plan.{headers_with}
 use Rattle.jx_generate.specs.Headers.{AreSizes}

@@ -13,7 +13,7 @@ use Rattle.jx_progression.specs.declared.names.PacketName.{PacketName}
 use Rattle.jx_options.specs.declared.PartChoice.{PartChoice}
 use Rattle.jx_options.specs.declared.PartChoice.TheVariants as part
 use Rattle.jx_tier2_reader.specs.Written.{packets_in}
-use Rattle.jx_plan.specs.Groups.{groups_of, key_of, more_groups, put_before, with_first}
+use Rattle.jx_tile_parts.specs.Groups.{groups_of, key_of, more_groups, put_before, with_first}
 
 -- ---- one packet more at the front
 pub put_same : (parts : PartChoice) (p q : PacketName) (names : List PacketName) (groups : List (List PacketName)) → key_of parts p ≡ key_of parts q

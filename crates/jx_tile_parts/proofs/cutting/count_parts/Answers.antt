@@ -1,7 +1,7 @@
 use Rattle.std.proofs.Common.{◌≡◌, arith, drop, length, suc}
-use Rattle.jx_plan.specs.Groups.{more_groups}
-use Rattle.jx_plan.proofs.GroupLemmas.{count_next}
-use Rattle.jx_plan.proofs.parting.count_parts.Goals as goal
+use Rattle.jx_tile_parts.specs.Groups.{more_groups}
+use Rattle.jx_tile_parts.proofs.GroupLemmas.{count_next}
+use Rattle.jx_tile_parts.proofs.cutting.count_parts.Goals as goal
 
 pub loop-from-preserved : goal.loop-from-preserved
 loop-from-preserved c =

@@ -1,6 +1,6 @@
 use Rattle.std.proofs.Common.{◌≡◌, ◌+◌, ◌≤◌, ◌-◌, drop, length}
-use Rattle.jx_plan.specs.Groups.{groups_of, more_groups}
-use Rattle.jx_plan.proofs.parting.count_parts.Given as goal
+use Rattle.jx_tile_parts.specs.Groups.{groups_of, more_groups}
+use Rattle.jx_tile_parts.proofs.cutting.count_parts.Given as goal
 
 abbrev pub invariant-loop-from : goal.invariant-loop-from
 invariant-loop-from l = record {

@@ -1,5 +1,5 @@
-use Rattle.jx_plan.proofs.GroupLemmas.{empty_group, groups_agree, groups_differ, groups_stay, one_group, rising_few}
-use Rattle.jx_plan.proofs.laws.groups_are_cut.Goals as goal
+use Rattle.jx_tile_parts.proofs.GroupLemmas.{empty_group, groups_agree, groups_differ, groups_stay, one_group, rising_few}
+use Rattle.jx_tile_parts.proofs.laws.groups_are_cut.Goals as goal
 
 pub returns-clause-stay : goal.returns-clause-stay
 returns-clause-stay c = groups_stay

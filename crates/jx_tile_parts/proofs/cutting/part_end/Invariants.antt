@@ -1,6 +1,6 @@
 use Rattle.std.proofs.Common.{◌≡◌, ◌+◌, ◌≤◌, drop, length}
-use Rattle.jx_plan.proofs.GroupLemmas.{run_of}
-use Rattle.jx_plan.proofs.parting.part_end.Given as goal
+use Rattle.jx_tile_parts.proofs.GroupLemmas.{run_of}
+use Rattle.jx_tile_parts.proofs.cutting.part_end.Given as goal
 
 abbrev pub invariant-loop-end : goal.invariant-loop-end
 invariant-loop-end l = record {

@@ -11,9 +11,9 @@ use crate::checks::{check, equal, equal_at};
 use jx_base::{Band, Block, BlockName, NoMemory, Piece, Pieces, Rect, Span, Style};
 use jx_codeblock::Job;
 use jx_layers::{
-    CutLayers, KeepLayers, LayerPlanner, OneLayer, PlaneLayers, StreamFacts, TableLayers, ask_jobs,
-    first_broken, first_crowded, shortened, style_for,
+    CutLayers, KeepLayers, LayerPlanner, OneLayer, PlaneLayers, StreamFacts, TableLayers,
 };
+use jx_plan::{ask_jobs, first_broken, first_crowded, shortened, style_for};
 use std::alloc::Global;
 use std::test::Fail;
 

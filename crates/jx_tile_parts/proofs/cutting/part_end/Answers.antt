@@ -1,7 +1,7 @@
 use Rattle.std.proofs.Common.{◌≡◌, arith, drop, length}
 use Rattle.jx_progression.specs.declared.names.PacketName.{PacketName}
-use Rattle.jx_plan.proofs.GroupLemmas.{part_is, run_none, run_of, run_stops}
-use Rattle.jx_plan.proofs.parting.part_end.Goals as goal
+use Rattle.jx_tile_parts.proofs.GroupLemmas.{part_is, run_none, run_of, run_stops}
+use Rattle.jx_tile_parts.proofs.cutting.part_end.Goals as goal
 
 abbrev no_name : PacketName
 no_name = record { layer = 0; res = 0; comp = 0; precinct = 0 }
