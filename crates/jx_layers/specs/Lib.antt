@@ -1,5 +1,5 @@
 pub mod Rule
+pub mod Planners
 -- Inner: no other crate cites these.
 pub mod Texts
 pub mod Cuts
-pub mod Planners

@@ -9,14 +9,12 @@ mod keep;
 pub mod laws;
 mod planes;
 mod planner;
-mod table;
 mod texts;
 
 pub use cutting::CutLayers;
 pub use keep::{KeepLayers, OneLayer};
 pub use planes::PlaneLayers;
 pub use planner::LayerPlanner;
-pub use table::TableLayers;
 
 /// What a planner is told of a codestream before it is asked.
 #[derive(Clone, Copy, Debug, PartialEq, Eq)]

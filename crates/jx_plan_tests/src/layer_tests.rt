@@ -8,11 +8,10 @@ ghost use Rattle.jx_layers.specs.Rule.{layers_by};
 ghost use Rattle.jx_base.specs.Limits.{most_blocks};
 
 use crate::checks::{check, equal, equal_at};
+use crate::table::TableLayers;
 use jx_base::{Band, Block, BlockName, NoMemory, Piece, Pieces, Rect, Span, Style};
 use jx_codeblock::Job;
-use jx_layers::{
-    CutLayers, KeepLayers, LayerPlanner, OneLayer, PlaneLayers, StreamFacts, TableLayers,
-};
+use jx_layers::{CutLayers, KeepLayers, LayerPlanner, OneLayer, PlaneLayers, StreamFacts};
 use jx_plan::{ask_jobs, first_broken, first_crowded, shortened, style_for};
 use std::alloc::Global;
 use std::test::Fail;

@@ -22,6 +22,8 @@ mod planned;
 #[cfg(test)]
 mod profile_tests;
 #[cfg(test)]
+mod table;
+#[cfg(test)]
 mod values;
 #[cfg(test)]
 mod words_tests;

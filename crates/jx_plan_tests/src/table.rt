@@ -4,8 +4,8 @@ ghost use Rattle.std.specs.Prelude.{◌≡◌, None, IfOk};
 ghost use Rattle.jx_layers.specs.Rule.{greatest};
 ghost use Rattle.jx_layers.specs.Planners.{is_text, table_of};
 
-use crate::{LayerPlanner, PassFacts, StreamFacts};
 use jx_base::NoMemory;
+use jx_layers::{LayerPlanner, PassFacts, StreamFacts};
 use std::alloc::Global;
 
 /// Its own words: the layer of each question stands in a list, and is 0 past its end.
