@@ -1,4 +1,4 @@
-//! Tests of what becomes of a code-block, of the layers that are asked for it, and of the workers, over the public calls of their crates.
+//! Tests of what becomes of a code-block, and of the workers, over the public calls of their crates.
 //! They are a crate of their own, so the crates below are proved without them, and an edit here proves none of those anew.
 #![tactic(auto)]
 
@@ -8,8 +8,6 @@ mod block_tests;
 mod blocks;
 #[cfg(test)]
 mod checks;
-#[cfg(test)]
-mod layer_tests;
 #[cfg(test)]
 mod pieces_tests;
 #[cfg(test)]

@@ -273,26 +273,6 @@ wrapped_length bytes inner boxed found =
     let whole = whole_length (take boxed.head bytes) (head_bytes (form_for boxed.form (length inner)) (length inner)) inner (drop boxed.to bytes) in
     omega (arith, front, tail, size, whole)
 
--- it is put together of its pieces
-pub wrapped_of : (bytes inner : List ℕ) (boxed : Boxed) (front head back : List ℕ) → front ≡ take boxed.head bytes
-    → head ≡ head_bytes (form_for boxed.form (length inner)) (length inner) → back ≡ drop boxed.to bytes → wrapped bytes boxed inner ≡ front ++ (head ++ (inner ++ back))
-unfolding wrapped
-wrapped_of bytes inner boxed front head back fronts heads backs = rw (fronts, heads, backs) refl
-
-pub pieces_length : (bytes inner : List ℕ) (boxed : Boxed) (front head back : List ℕ) → front ≡ take boxed.head bytes
-    → head ≡ head_bytes (form_for boxed.form (length inner)) (length inner) → back ≡ drop boxed.to bytes
-    → length (wrapped bytes boxed inner) ≡ length front + (length head + (length inner + length back))
-pieces_length bytes inner boxed front head back fronts heads backs =
-    ap (λ (t : List ℕ). length t) (wrapped_of bytes inner boxed front head back fronts heads backs) ∙ whole_length front head inner back
-
-four_grouped : (out front head inner back : List ℕ) → (((out ++ front) ++ head) ++ inner) ++ back ≡ out ++ (front ++ (head ++ (inner ++ back)))
-four_grouped out front head inner back = simp append_assoc
-
-pub pieces_appended : (out front head inner back o0 o1 o2 o3 o4 whole : List ℕ) → o0 ≡ out → o1 ≡ o0 ++ front → o2 ≡ o1 ++ head → o3 ≡ o2 ++ inner → o4 ≡ o3 ++ back
-    → whole ≡ front ++ (head ++ (inner ++ back)) → o4 ≡ out ++ whole
-pieces_appended out front head inner back o0 o1 o2 o3 o4 whole e0 e1 e2 e3 e4 is =
-    rw (e4, e3, e2, e1, e0, is) (four_grouped out front head inner back)
-
 -- ---- the laws
 place_same : (w : List ℕ) (h n : ℕ) (f : HeadForm) → length_at w h ≡ head_size f + n → form_of (lbox w h) ≡ f
     → ◌≡◌ {A = Boxed} (record { head = h; from = h + head_size f; to = h + head_size f + n; form = f }) (boxed_at w h)

@@ -6,14 +6,14 @@ ghost use Rattle.jx_jp2.specs.Codestream.{IsJp2, IsCodestream, IsNextFault, cont
 ghost use Rattle.jx_jp2.specs.Trees.{Tree, IsTree, IsTreeBroken};
 ghost use Rattle.jx_jp2.specs.Wrapped.{wrapped, boxed_for};
 
-/// The codestream of a file that `wrap` made is the one that was put in, whatever the form of the head was and is.
+/// The codestream of a file that has another one in the place of its own is that one, whatever the form of the head was and is.
 pub fn content_is_found()
     ensures { (bytes inner : List ℕ) (boxed : Boxed) → IsCodestream bytes boxed → 16 + length inner < 2 ^ 64
         → IsCodestream (wrapped bytes boxed inner) (boxed_for boxed (length inner))
         × (content (wrapped bytes boxed inner) (boxed_for boxed (length inner)) ≡ inner) }
 {}
 
-/// A file that `wrap` made of a JP2 file is JP2.
+/// A JP2 file with another codestream in the place of its own is JP2.
 pub fn wrapped_is_jp2()
     ensures { (bytes inner : List ℕ) (boxed : Boxed) → IsJp2 bytes → IsCodestream bytes boxed → IsJp2 (wrapped bytes boxed inner) }
 {}

@@ -20,7 +20,7 @@ pub use finding::{find, is_jp2};
 pub use listing::list;
 pub use naming::names;
 pub use positions::holds_positions;
-pub use wrapping::{Head, around, head_for, wrap};
+pub use wrapping::{Head, around, head_for};
 
 /// How a box's head tells where the box ends (T.800, I.4).
 #[derive(Clone, Copy, Debug, PartialEq, Eq)]

@@ -1,16 +1,14 @@
 //! A JP2 file with another codestream in the place of its own (ITU-T T.800, I.4 and I.5.4).
 
-ghost use Rattle.std.specs.Prelude.{◌≡◌, ℕ, ◌+◌, ◌<◌, ◌≤◌, ◌++◌, ◌^◌, List, length, take, drop, vec_len, vec_capacity, OnOk, OnErr};
-ghost use Rattle.jx_base.specs.Limits.{most_bytes};
+ghost use Rattle.std.specs.Prelude.{◌≡◌, ℕ, ◌+◌, ◌<◌, ◌≤◌, ◌++◌, ◌^◌, List, length, take, drop};
 ghost use Rattle.byteorder.specs.Endian.{big_bytes};
 ghost use Rattle.jx_jp2.specs.Codestream.{IsCodestream};
 ghost use Rattle.jx_jp2.specs.Kinds.{jp2c};
-ghost use Rattle.jx_jp2.specs.Wrapped.{form_for, head_bytes, wrapped};
+ghost use Rattle.jx_jp2.specs.Wrapped.{form_for, head_bytes};
 
 use crate::kinds::JP2C;
 use crate::{Boxed, HeadForm};
 use byteorder::{BigEndian, ByteOrder};
-use jx_base::NoMemory;
 use std::marker::Model;
 
 fn form_for(form: HeadForm, size: u64) -> HeadForm
@@ -106,24 +104,4 @@ pub fn around<'a>(bytes: &'a [u8], boxed: &Boxed) -> (&'a [u8], &'a [u8])
     let front = bytes.split_at(boxed.head as usize).0;
     let back = bytes.split_at(boxed.to as usize).1;
     (front, back)
-}
-
-/// Appends the file `bytes` with `inner` in the place of the content of `boxed`, which is what `find` gives for it. What is around it
-/// stays, and the head is that of `head_for`. After `NoMemory`, which comes only where `out` hasn't room for all, `out` is as before.
-pub fn wrap(bytes: &[u8], boxed: &Boxed, inner: &[u8], out: &mut Vec<u8>) -> Result<(), NoMemory>
-    requires small { length bytes.now ≤ most_bytes }
-    requires found { IsCodestream bytes.now boxed.now }
-    ensures ok { OnOk result (out.new.items ≡ out.old.items ++ wrapped bytes.now boxed.now inner.now) }
-    ensures err { OnErr result (out.new.items ≡ out.old.items) }
-    ensures room { OnErr result (vec_capacity out.old < vec_len out.old + length (wrapped bytes.now boxed.now inner.now)) }
-{
-    let (front, back) = around(bytes, boxed);
-    let head = head_for(boxed, inner.len() as u64);
-    let told = head.bytes();
-    out.reserve(front.len() + told.len() + inner.len() + back.len())?;
-    out.extend_from_slice(front)?;
-    out.extend_from_slice(told)?;
-    out.extend_from_slice(inner)?;
-    out.extend_from_slice(back)?;
-    Ok(())
 }

@@ -2,8 +2,8 @@
 
 use crate::checks::check;
 use crate::files::{CONTENT, HEADER, LONG, REST, SHORT, START, file_of};
-use jx_base::{MOST_BYTES, NoMemory};
-use jx_jp2::{find, wrap};
+use jx_base::MOST_BYTES;
+use jx_jp2::{around, find, head_for};
 use std::alloc::{AllocError, Global};
 use std::process::Abort;
 use std::test::Fail;
@@ -11,12 +11,17 @@ use std::test::Fail;
 const INNER: &[u8] = &[9; 88];
 
 // Appends the file with INNER in it.
-fn wrapped(rt: &impl Abort, file: &[u8], out: &mut Vec<u8>) -> Result<(), NoMemory> {
+fn wrapped(rt: &impl Abort, file: &[u8], out: &mut Vec<u8>) -> Result<(), AllocError> {
     check(rt, file.len() <= MOST_BYTES);
-    match find(file) {
-        Ok(boxed) => wrap(file, &boxed, INNER, out),
-        Err(_) => Ok(()),
-    }
+    let Ok(boxed) = find(file) else {
+        return Ok(());
+    };
+    let (front, back) = around(file, &boxed);
+    let head = head_for(&boxed, INNER.len() as u64);
+    out.extend_from_slice(front)?;
+    out.extend_from_slice(head.bytes())?;
+    out.extend_from_slice(INNER)?;
+    out.extend_from_slice(back)
 }
 
 fn becomes(

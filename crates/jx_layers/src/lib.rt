@@ -1,31 +1,20 @@
-//! What is asked of each code-block before it is written: the layers in which its coding passes are sent, those of the input or those that
-//! a planner answers, and the style in which it is coded anew (ITU-T T.800, B.10, D.7).
+//! Planners of quality layers: which coding pass is sent in which layer (ITU-T T.800, B.10).
+//!
+//! [`LayerPlanner`] states what a planner answers; [`KeepLayers`], [`OneLayer`], [`CutLayers`] and [`PlaneLayers`] are those that the
+//! words of `--layers` choose.
 #![tactic(auto)]
 
-mod asking;
-mod causal;
-mod crowded;
 mod cutting;
-mod facts;
 mod keep;
 pub mod laws;
-mod lending;
 mod planes;
 mod planner;
-mod sending;
-mod table;
 mod texts;
 
-pub use asking::ask_jobs;
-pub use causal::{first_broken, style_for};
-pub use crowded::first_crowded;
 pub use cutting::CutLayers;
-pub use facts::facts_of;
 pub use keep::{KeepLayers, OneLayer};
-pub use lending::shortened;
 pub use planes::PlaneLayers;
 pub use planner::LayerPlanner;
-pub use table::TableLayers;
 
 /// What a planner is told of a codestream before it is asked.
 #[derive(Clone, Copy, Debug, PartialEq, Eq)]

@@ -19,11 +19,11 @@ use Rattle.jx_tile.proofs.TotalLemmas.{geometry_fits}
 use Rattle.jx_options.specs.declared.PartChoice.{PartChoice}
 use Rattle.jx_plan.specs.declared.faults.PlanFault.{PlanFault}
 use Rattle.jx_plan.specs.declared.faults.PlanFault.TheVariants as fault
-use Rattle.jx_layers.specs.Causal.{first_broken}
+use Rattle.jx_plan.specs.Causal.{first_broken}
 use Rattle.jx_layers.specs.Rule.{Rule}
 use Rattle.jx_plan.specs.Fits.{Fits, IsSameAt, IsUnfit, KeepsBlocks, first_zero}
 use Rattle.jx_plan.specs.Causes.{IsLate}
-use Rattle.jx_plan.specs.Groups.{HasFewEntries, HasFewParts, HasManyParts, IsPartedAt, groups_of, most_parts}
+use Rattle.jx_tile_parts.specs.Groups.{HasFewEntries, HasFewParts, HasManyParts, IsPartedAt, groups_of, most_parts}
 use Rattle.jx_plan.specs.Profile.{unclaimed}
 use Rattle.jx_plan.specs.Headers.{comp_written, with_layers}
 use Rattle.jx_plan.specs.Plan.{MayBePlanned, headers_with, most_packets}

@@ -22,12 +22,12 @@ use Rattle.jx_codeblock.specs.declared.LayerEnd.{LayerEnd}
 use Rattle.jx_codeblock.specs.Jobs.{IsAsked}
 use Rattle.jx_codeblock.specs.Laws.{AreCutInLayers, asked_at}
 use Rattle.jx_codeblock.specs.Written.{is_wrong, style_for, written_in}
-use Rattle.jx_layers.specs.Causal.{first_broken}
-use Rattle.jx_layers.specs.Facts.{most_layers}
-use Rattle.jx_layers.specs.Layers.{ends_of, written_by}
+use Rattle.jx_plan.specs.Causal.{first_broken}
+use Rattle.jx_plan.specs.Facts.{most_layers}
+use Rattle.jx_plan.specs.Layers.{ends_of, written_by}
 use Rattle.jx_layers.specs.Rule.{Rule}
 use Rattle.jx_layers.specs.Rule.Rule.{Keep}
-use Rattle.jx_layers.proofs.FactLemmas.{layers_most}
+use Rattle.jx_plan.proofs.FactLemmas.{layers_most}
 use Rattle.jx_plan.specs.Fits.{Fits}
 use Rattle.jx_plan.specs.Headers.{HeaderOptions, style_written, with_layers}
 use Rattle.jx_plan.specs.Plan.{MayBePlanned, headers_with}

@@ -14,12 +14,12 @@ use Rattle.jx_options.specs.declared.PartChoice.{PartChoice}
 use Rattle.jx_plan.specs.Headers.{with_layers}
 use Rattle.jx_plan.specs.declared.faults.PlanFault.{PlanFault}
 use Rattle.jx_plan.specs.declared.faults.PlanFault.TheVariants as fault
-use Rattle.jx_layers.specs.Causal.{first_broken}
+use Rattle.jx_plan.specs.Causal.{first_broken}
 use Rattle.jx_plan.specs.Fits.{AreUnfit, Fits, IsUnfit}
-use Rattle.jx_plan.specs.Groups.{HasFewEntries, HasFewParts, HasManyEntries, IsPartedAt}
+use Rattle.jx_tile_parts.specs.Groups.{HasFewEntries, HasFewParts, HasManyEntries, IsPartedAt}
 use Rattle.jx_plan.specs.Profile.{unclaimed}
 use Rattle.jx_plan.specs.Causes.{HasManyPartsAt, IsFree, IsLate, IsPlaneBroken, PassesPackets}
-use Rattle.jx_layers.specs.Layers.{AreJobs}
+use Rattle.jx_plan.specs.Layers.{AreJobs}
 use Rattle.jx_plan.specs.Plan.{IsPlan, Plan, headers_of, headers_with, most_packets}
 use Rattle.jx_plan.specs.Planned.{CanBePlannedBy, HasLaterCause, HasPlanCause, IsCrowded, IsFreeBy, IsPlanned, IsPlannedBy, IsUnplannedBy, LacksPlan, blocks_written, layers_of_rule}
 use Rattle.jx_layers.specs.Rule.{Rule}

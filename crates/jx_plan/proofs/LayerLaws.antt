@@ -12,9 +12,9 @@ use Rattle.jx_codeblock.specs.Jobs.{IsAsked}
 use Rattle.jx_codeblock.specs.Laws.{AreCutInLayers, asked_at}
 use Rattle.jx_codeblock.specs.Recoding.{layer_ends}
 use Rattle.jx_codeblock.specs.Written.{block_asked, is_wrong, own_cells, style_for, written_as, written_in}
-use Rattle.jx_layers.specs.Causal.{breaks_plane}
-use Rattle.jx_layers.specs.Crowded.{IsLowestCrowded, IsLowestCrowdedBlock}
-use Rattle.jx_layers.specs.Layers.{AreJobs, ends_of, written_by}
+use Rattle.jx_plan.specs.Causal.{breaks_plane}
+use Rattle.jx_plan.specs.Crowded.{IsLowestCrowded, IsLowestCrowdedBlock}
+use Rattle.jx_plan.specs.Layers.{AreJobs, ends_of, written_by}
 use Rattle.jx_layers.specs.Rule.{Rule}
 use Rattle.jx_layers.specs.Rule.Rule.{Keep}
 

@@ -1,3 +1,13 @@
+mod SentLemmas
+mod LeftLemmas
+mod JobLemmas
+pub mod OneLemmas
+mod CrowdLemmas
+mod LayerLemmas
+mod BlocksByRule
+mod LowestLemmas
+pub mod FactLemmas
+pub mod CausalLemmas
 mod AlikeLemmas
 mod WrittenLemmas
 mod StandLemmas
@@ -22,5 +32,4 @@ mod QuestionLemmas
 mod AnswerLemmas
 mod PlannedLemmas
 mod FitLemmas
-pub mod GroupLemmas
 mod PartedLemmas

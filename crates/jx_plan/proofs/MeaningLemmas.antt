@@ -13,9 +13,9 @@ use Rattle.jx_tier1_specs.specs.declared.coef.Coef.{Coef}
 use Rattle.jx_tier1_specs.specs.Cells.{Cells, coef_at}
 use Rattle.jx_codeblock.specs.declared.LayerEnd.{LayerEnd}
 use Rattle.jx_codeblock.specs.Written.{own_cells, written_in}
-use Rattle.jx_layers.specs.Causal.{breaks_plane, first_broken}
-use Rattle.jx_layers.proofs.CausalLemmas.{none_at}
-use Rattle.jx_layers.specs.Layers.{ends_of, written_by, written_from}
+use Rattle.jx_plan.specs.Causal.{breaks_plane, first_broken}
+use Rattle.jx_plan.proofs.CausalLemmas.{none_at}
+use Rattle.jx_plan.specs.Layers.{ends_of, written_by, written_from}
 use Rattle.jx_layers.specs.Rule.{Rule}
 use Rattle.jx_marker.specs.declared.Siz.{Siz}
 use Rattle.jx_codestream.specs.declared.Stream.{Stream}

@@ -16,9 +16,9 @@ use Rattle.jx_tile.proofs.TotalLemmas.{geometry_fits}
 use Rattle.jx_options.specs.declared.Marks.{Marks}
 use Rattle.jx_options.specs.declared.PartChoice.{PartChoice}
 use Rattle.jx_options.specs.declared.PartChoice.TheVariants as part
-use Rattle.jx_plan.specs.Groups.{ArePartCounts, HasFewEntries, HasFewParts, HasManyEntries, HasManyParts, IsPartCount, groups_of, most_entries, most_parts}
+use Rattle.jx_tile_parts.specs.Groups.{ArePartCounts, HasFewEntries, HasFewParts, HasManyEntries, HasManyParts, IsPartCount, groups_of, most_entries, most_parts}
 use Rattle.jx_plan.specs.Steps.{AreAllParts}
-use Rattle.jx_plan.proofs.GroupLemmas.{one_group}
+use Rattle.jx_tile_parts.proofs.GroupLemmas.{one_group}
 
 -- a tile has one list of packets, so one number of tile-parts
 one_list : (s : Stream) (t : ℕ) (names others : List PacketName) → IsListOf s t names → IsListOf s t others → names ≡ others

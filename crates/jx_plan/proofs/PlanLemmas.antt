@@ -26,10 +26,10 @@ use Rattle.jx_tier2_reader.specs.Gathered.{IsGathered}
 use Rattle.jx_tier2_reader.proofs.BlockOfLemmas.{blocks_of_stream}
 use Rattle.jx_tier2_reader.proofs.SoundLemmas.{sound_gathered}
 use Rattle.jx_tile.specs.Totals.{block_total, packet_total, totals_fault}
-use Rattle.jx_layers.specs.Causal.{breaks_plane, first_broken}
-use Rattle.jx_layers.specs.Facts.{most_layers}
+use Rattle.jx_plan.specs.Causal.{breaks_plane, first_broken}
+use Rattle.jx_plan.specs.Facts.{most_layers}
 use Rattle.jx_plan.specs.Fits.{Fits}
-use Rattle.jx_plan.specs.Groups.{HasFewParts}
+use Rattle.jx_tile_parts.specs.Groups.{HasFewParts}
 use Rattle.jx_plan.specs.Headers.{MayBeInHeaders, with_layers}
 use Rattle.jx_plan.specs.Plan.{MayBePlanned, headers_with, most_packets}
 use Rattle.jx_options.specs.Wanted.{MayBeStyle, MayBeWanted, Wanted}
@@ -40,8 +40,8 @@ use Rattle.jx_plan.specs.Standing.{HeadersStand}
 use Rattle.jx_plan.proofs.CoverLemmas.{written_whole}
 use Rattle.jx_plan.proofs.PlainLemmas.{blocks_pass, totals_plain}
 use Rattle.jx_plan.proofs.RangeLemmas.{written_in_range}
-use Rattle.jx_layers.proofs.CausalLemmas.{none_at}
-use Rattle.jx_layers.proofs.FactLemmas.{layers_most}
+use Rattle.jx_plan.proofs.CausalLemmas.{none_at}
+use Rattle.jx_plan.proofs.FactLemmas.{layers_most}
 use Rattle.jx_plan.proofs.StreamLemmas.{tile_number_stays}
 use Rattle.jx_base.specs.Limits.{most_blocks, most_bytes}
 

@@ -10,9 +10,9 @@ use Rattle.jx_codeblock.specs.declared.LayerEnd.{LayerEnd}
 use Rattle.jx_codeblock.specs.declared.job.Job.{Job}
 use Rattle.jx_codeblock.specs.Written.{style_for}
 use Rattle.jx_layers.specs.declared.StreamFacts.{StreamFacts}
-use Rattle.jx_layers.specs.Causal.{first_broken}
-use Rattle.jx_layers.specs.Facts.{facts_of}
-use Rattle.jx_layers.specs.Layers.{AreJobs, IsJobOf}
+use Rattle.jx_plan.specs.Causal.{first_broken}
+use Rattle.jx_plan.specs.Facts.{facts_of}
+use Rattle.jx_plan.specs.Layers.{AreJobs, IsJobOf}
 use Rattle.jx_plan.specs.declared.faults.PlanFault.{PlanFault}
 use Rattle.jx_plan.specs.declared.faults.PlanFault.TheVariants as fault
 use Rattle.jx_plan.specs.Fits.{Fits}
@@ -21,8 +21,8 @@ use Rattle.jx_plan.specs.Planned.{ArePlanned, IsUnplannedBy, LacksPlan, layers_o
 use Rattle.jx_plan.specs.Steps.{IsTooMuch}
 use Rattle.jx_options.specs.Wanted.{Wanted}
 use Rattle.jx_layers.specs.Rule.{Rule}
-use Rattle.jx_layers.proofs.CausalLemmas.{asked_of}
-use Rattle.jx_layers.proofs.OneLemmas.{layers_below}
+use Rattle.jx_plan.proofs.CausalLemmas.{asked_of}
+use Rattle.jx_plan.proofs.OneLemmas.{layers_below}
 use Rattle.jx_plan.proofs.LayerLaws.{CrowdLaws}
 use Rattle.jx_plan.proofs.PlanLemmas.{whole_at}
 

@@ -4,7 +4,7 @@ use Rattle.std.specs.List.{All, list_any, position}
 use Rattle.jx_codestream.specs.declared.Stream.{Stream}
 use Rattle.jx_codestream.specs.declared.Tile.{Tile}
 use Rattle.jx_plan.specs.Fits.{first_zero, has_zero, tile_has_zero}
-use Rattle.jx_layers.proofs.CausalLemmas.{none_at}
+use Rattle.jx_plan.proofs.CausalLemmas.{none_at}
 
 -- neither in the main header nor in a tile's
 pub record IsClear (ps : Option (List ℕ)) (s : Stream) : Type 0 where

@@ -7,9 +7,9 @@ use Rattle.jx_codestream.specs.First.{tile_number}
 use Rattle.jx_tile.specs.Totals.{packet_total}
 use Rattle.jx_plan.specs.declared.faults.PlanFault.{PlanFault}
 use Rattle.jx_plan.specs.declared.faults.PlanFault.TheVariants as fault
-use Rattle.jx_layers.specs.Causal.{first_broken}
+use Rattle.jx_plan.specs.Causal.{first_broken}
 use Rattle.jx_plan.specs.Fits.{Fits}
-use Rattle.jx_plan.specs.Groups.{HasFewEntries, HasFewParts, HasManyEntries, IsPartedAt}
+use Rattle.jx_tile_parts.specs.Groups.{HasFewEntries, HasFewParts, HasManyEntries, IsPartedAt}
 use Rattle.jx_plan.specs.Plan.{headers_with, most_packets}
 use Rattle.jx_plan.specs.Profile.{unclaimed}
 use Rattle.jx_options.specs.Wanted.{Wanted}

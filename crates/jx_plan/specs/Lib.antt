@@ -1,6 +1,9 @@
+pub mod Layers
+pub mod Crowded
+pub mod Facts
+pub mod Causal
 pub mod Headers
 pub mod Fits
-pub mod Groups
 pub mod Profile
 pub mod Standing
 pub mod Asides
@@ -13,3 +16,4 @@ pub mod Questions
 pub mod ReadBack
 pub mod TileJobs
 pub mod Steps
+pub mod Sent

@@ -14,10 +14,10 @@ use Rattle.jx_codeblock.specs.declared.LayerEnd.{LayerEnd}
 use Rattle.jx_codeblock.specs.Jobs.{IsAsked}
 use Rattle.jx_codeblock.specs.Written.{style_for}
 use Rattle.jx_codestream.specs.First.{tile_number}
-use Rattle.jx_layers.specs.Causal.{first_broken}
-use Rattle.jx_layers.specs.Crowded.{IsLowestCrowded}
+use Rattle.jx_plan.specs.Causal.{first_broken}
+use Rattle.jx_plan.specs.Crowded.{IsLowestCrowded}
 use Rattle.jx_plan.specs.Fits.{Fits}
-use Rattle.jx_plan.specs.Groups.{HasFewEntries, HasFewParts}
+use Rattle.jx_tile_parts.specs.Groups.{HasFewEntries, HasFewParts}
 use Rattle.jx_plan.specs.Headers.{stream_written, with_layers}
 use Rattle.jx_options.specs.Wanted.{MayBeWanted, Wanted}
 use Rattle.jx_plan.specs.Profile.{unclaimed}

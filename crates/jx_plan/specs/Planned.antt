@@ -10,11 +10,11 @@ use Rattle.jx_tile.specs.Totals.{packet_total}
 use Rattle.jx_layers.specs.declared.StreamFacts.{StreamFacts}
 use Rattle.jx_plan.specs.declared.faults.PlanFault.{PlanFault}
 use Rattle.jx_plan.specs.declared.faults.PlanFault.TheVariants as fault
-use Rattle.jx_layers.specs.Causal.{first_broken}
+use Rattle.jx_plan.specs.Causal.{first_broken}
 use Rattle.jx_layers.specs.Rule.{Rule, layers_by}
-use Rattle.jx_layers.specs.Layers.{AreJobs, written_by}
-use Rattle.jx_layers.specs.Crowded.{IsLowestCrowdedBlock}
-use Rattle.jx_layers.specs.Facts.{facts_of}
+use Rattle.jx_plan.specs.Layers.{AreJobs, written_by}
+use Rattle.jx_plan.specs.Crowded.{IsLowestCrowdedBlock}
+use Rattle.jx_plan.specs.Facts.{facts_of}
 use Rattle.jx_plan.specs.Fits.{AreUnfit, Fits}
 use Rattle.jx_plan.specs.Causes.{IsFree, IsLate, IsPlaneBroken, PassesPackets}
 use Rattle.jx_plan.specs.Plan.{Plan, headers_with, most_packets}

@@ -1,7 +1,7 @@
 -- How often a planner of layers is asked for a plan, by how that ends.
 use Rattle.std.specs.Prelude.{◌≡◌, ◌⊎◌, ◌<◌, ◌≤◌, ℕ, zero, suc, Bool, true, false, List, [], ◌∷◌, MatchBool, length}
 use Rattle.jx_base.specs.declared.pieces.Block.{Block}
-use Rattle.jx_layers.specs.Layers.{asked_before}
+use Rattle.jx_plan.specs.Layers.{asked_before}
 use Rattle.jx_plan.specs.declared.faults.PlanFault.{PlanFault}
 use Rattle.jx_plan.specs.declared.faults.PlanFault.TheVariants as fault
 

@@ -9,9 +9,9 @@ use Rattle.jx_tile.specs.Totals.{packet_total}
 use Rattle.jx_codeblock.specs.declared.job.Job.{Job}
 use Rattle.jx_plan.specs.declared.faults.PlanFault.{PlanFault}
 use Rattle.jx_plan.specs.declared.faults.PlanFault.TheVariants as fault
-use Rattle.jx_layers.specs.Crowded.{IsLowestCrowded}
+use Rattle.jx_plan.specs.Crowded.{IsLowestCrowded}
 use Rattle.jx_plan.specs.Fits.{KeepsBlocks}
-use Rattle.jx_plan.specs.Groups.{ArePartCounts, HasFewParts, HasManyEntries}
+use Rattle.jx_tile_parts.specs.Groups.{ArePartCounts, HasFewParts, HasManyEntries}
 use Rattle.jx_plan.specs.Profile.{unclaimed}
 use Rattle.jx_codestream.specs.First.{tile_number}
 use Rattle.jx_base.specs.Joined.{sum_below}

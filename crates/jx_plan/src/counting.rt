@@ -5,7 +5,7 @@ ghost use Rattle.jx_tile.specs.Totals.{packet_total, totals_fault};
 ghost use Rattle.jx_codestream.specs.First.{tile_number};
 ghost use Rattle.jx_codestream.specs.InRange.{StreamInRange};
 ghost use Rattle.jx_plan.specs.Fits.{Fits};
-ghost use Rattle.jx_plan.specs.Groups.{HasFewEntries, HasFewParts};
+ghost use Rattle.jx_tile_parts.specs.Groups.{HasFewEntries, HasFewParts};
 ghost use Rattle.jx_plan.specs.Plan.{headers_with, most_packets};
 ghost use Rattle.jx_plan.specs.Profile.{unclaimed};
 ghost use Rattle.jx_plan.specs.Standing.{HeadersStand};

@@ -1,9 +1,8 @@
 //! Laws over what is planned: the headers that are written, and the plans. The functions do nothing: their contracts carry the laws.
 
-ghost use Rattle.std.specs.Prelude.{◌≡◌, ◌≤◌, ◌<◌, ◌^◌, ◌++◌, ◌⊎◌, ◌∷◌, ℕ, List, [], None, Some, false, find, length, map, slice_get, Option};
-ghost use Rattle.std.specs.List.{All, AllPairs, Contains, filter, list_any};
+ghost use Rattle.std.specs.Prelude.{◌≡◌, ◌≤◌, ◌<◌, ◌^◌, ◌++◌, ◌⊎◌, ℕ, List, [], None, false, find, length, map, Option};
+ghost use Rattle.std.specs.List.{All, filter, list_any};
 ghost use Rattle.jx_base.specs.declared.names.Band.{Band};
-ghost use Rattle.jx_base.specs.declared.style.Style.{Style};
 ghost use Rattle.jx_marker.specs.declared.Segment.{Segment};
 ghost use Rattle.jx_codestream.specs.Headers.{cod_slot};
 ghost use Rattle.jx_codestream.specs.declared.headers.HeaderKind.TheVariants.{First, Later};
@@ -11,7 +10,6 @@ ghost use Rattle.jx_tier2_reader.specs.Another.{HaveSameBlocks};
 ghost use Rattle.jx_tier2_reader.specs.BlockOf.{AreBlocksOf};
 ghost use Rattle.jx_tile.specs.Covered.{IsWhole};
 ghost use Rattle.jx_tier2_reader.specs.Gathered.{IsGathered};
-ghost use Rattle.jx_tier2_reader.specs.Written.{packets_in};
 ghost use Rattle.jx_tile.specs.Totals.{block_total, packet_total, totals_fault};
 ghost use Rattle.jx_codestream.specs.declared.parts.PlacedPart.{PlacedPart};
 ghost use Rattle.jx_codestream.specs.declared.Stream.{Stream};
@@ -30,25 +28,21 @@ ghost use Rattle.jx_plan.specs.ReadBack.{HaveHeaders};
 ghost use Rattle.jx_plan.specs.Standing.{HeadersStand, IsHeaded};
 ghost use Rattle.jx_base.specs.declared.pieces.Block.{Block};
 ghost use Rattle.jx_base.specs.Sound.{IsSound};
-ghost use Rattle.jx_progression.specs.declared.names.PacketName.{PacketName};
-ghost use Rattle.jx_options.specs.declared.PartChoice.{PartChoice};
 ghost use Rattle.jx_plan.specs.Fits.{Fits, first_zero};
-ghost use Rattle.jx_plan.specs.Groups.{groups_of, key_of};
 ghost use Rattle.jx_options.specs.Wanted.{MayBeWanted, Wanted};
 ghost use Rattle.jx_plan.specs.declared.faults.PlanFault.{PlanFault};
 ghost use Rattle.jx_codeblock.specs.Written.{block_asked, is_wrong};
-ghost use Rattle.jx_layers.specs.Causal.{first_broken};
+ghost use Rattle.jx_plan.specs.Causal.{first_broken};
 ghost use Rattle.jx_plan.specs.Meaning.{meaning_of};
 ghost use Rattle.jx_plan.specs.Plan.{IsPlan, MayBePlanned, Plan, headers_with};
 ghost use Rattle.jx_plan.specs.Planned.{CanBePlannedBy, HasPlanCause, IsCrowded, IsFreeBy, IsPlanned, IsPlannedBy, MakesLayers, blocks_written, layers_of_rule};
 ghost use Rattle.jx_layers.specs.Rule.{Rule};
 ghost use Rattle.jx_layers.specs.Rule.Rule.{Keep};
-ghost use Rattle.jx_options.specs.declared.PartChoice.TheVariants as part_choice;
 ghost use Rattle.jx_plan.specs.declared.faults.PlanFault.TheVariants as plan_fault;
 ghost use Rattle.jx_base.specs.Limits.{most_bytes};
 
+use crate::layer_laws::{blocks_are_written, crowds_are_told, jobs_have_these_ends};
 use jx_codeblock::laws::{written_in_layers, written_in_own_layers};
-use jx_layers::laws::{blocks_are_written, crowds_are_told, jobs_have_these_ends};
 
 /// The headers of a stream that was read stand in its file.
 pub fn read_headers_stand()
@@ -222,18 +216,3 @@ pub fn one_answer()
 {
     crowds_are_told();
 }
-
-/// Tile-parts have a tile's packets in their order; those of one agree in what is asked, and the last of one and the first of the
-/// next don't. Where nothing is asked there is one. Only the tile-part of a tile without packets is empty. By resolution a tile
-/// of n resolutions has at most n, where no packet has a lower resolution than one before it, as in RLCP and RPCL (T.800, B.12.1).
-pub fn groups_are_cut()
-    ensures stay { (parts : PartChoice) (names : List PacketName) → packets_in (groups_of parts names) ≡ names }
-    ensures agree { (parts : PartChoice) (names group : List PacketName) (i : ℕ) (p q : PacketName) → slice_get (groups_of parts names) i ≡ Some group
-        → Contains group p → Contains group q → key_of parts p ≡ key_of parts q }
-    ensures differ { (parts : PartChoice) (names : List PacketName) (before after : List (List PacketName)) (xs ys : List PacketName) (p q : PacketName)
-        → groups_of parts names ≡ before ++ ((xs ++ p ∷ []) ∷ (q ∷ ys) ∷ after) → key_of parts p ≡ key_of parts q → ⊥ }
-    ensures one { (names : List PacketName) → groups_of part_choice.None names ≡ names ∷ [] }
-    ensures full { (parts : PartChoice) (names : List PacketName) (i : ℕ) → slice_get (groups_of parts names) i ≡ Some [] → names ≡ [] }
-    ensures few { (names : List PacketName) (n : ℕ) → 1 ≤ n → AllPairs (λ (p q : PacketName). p.res ≤ q.res) names → ((p : PacketName) → Contains names p → p.res < n)
-        → length (groups_of part_choice.Resolution names) ≤ n }
-{}

@@ -1,5 +1,5 @@
-//! Tests of the words of command lines, of plans, and of tiles that are put together, over public calls of jx_cli, jx_plan and
-//! jx_tier2_writer, of what the program can't show; tests/tables has the others. They stand in a crate of their own: an edit here proves
+//! Tests of the words of command lines, of planners of layers, of plans, and of tiles that are put together, over public calls of
+//! jx_cli, jx_layers, jx_plan, jx_tile_parts and jx_tier2_writer, of what the program can't show; tests/tables has the others. They stand in a crate of their own: an edit here proves
 //! no library anew, and their check proves none once more.
 #![tactic(auto)]
 
@@ -12,6 +12,8 @@ mod hex;
 #[cfg(test)]
 mod index_tests;
 #[cfg(test)]
+mod layer_tests;
+#[cfg(test)]
 mod parting_tests;
 #[cfg(test)]
 mod plan_tests;
@@ -19,6 +21,8 @@ mod plan_tests;
 mod planned;
 #[cfg(test)]
 mod profile_tests;
+#[cfg(test)]
+mod table;
 #[cfg(test)]
 mod values;
 #[cfg(test)]

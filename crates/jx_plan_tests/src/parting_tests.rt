@@ -2,8 +2,8 @@
 
 use crate::checks::equal;
 use jx_options::PartChoice;
-use jx_plan::{count_parts, part_end};
 use jx_progression::PacketName;
+use jx_tile_parts::{count_parts, part_end};
 use std::alloc::{AllocError, Global};
 use std::process::Abort;
 use std::test::Fail;

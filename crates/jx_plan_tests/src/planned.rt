@@ -9,10 +9,11 @@ ghost use Rattle.jx_plan.specs.Plan.{MayBePlanned};
 ghost use Rattle.jx_options.specs.Wanted.{MayBeStyle, MayBeWanted};
 
 use crate::hex::bytes_of;
+use crate::table::TableLayers;
 use jx_base::{Block, MOST_BYTES, NoMemory, Style};
 use jx_codeblock::Job;
 use jx_codestream::{Stream, Tile, read_stream};
-use jx_layers::{CutLayers, KeepLayers, LayerPlanner, OneLayer, TableLayers};
+use jx_layers::{CutLayers, KeepLayers, LayerPlanner, OneLayer};
 use jx_options::{Marks, Options, OrderChoice, PrecinctChoice, RsizChoice};
 use jx_plan::{OutStream, PlanFault, first_misfit, plan_served};
 use jx_tier2_reader::gather;

@@ -18,7 +18,7 @@ use Rattle.jx_codestream.specs.declared.Stream.{Stream}
 use Rattle.jx_codestream.specs.Headers.{has_slot, slot_of}
 use Rattle.jx_codestream.specs.Tiles.{in_slot}
 use Rattle.jx_codestream.specs.Params.{chosen, cod_in, cod_of, cod_or, header_in, header_of, quant_in, quant_of, shape_in, shape_of, shape_or, shift_in, shift_of}
-use Rattle.jx_layers.proofs.CausalLemmas.{none_at}
+use Rattle.jx_plan.proofs.CausalLemmas.{none_at}
 use Rattle.jx_reduce.specs.Reduction.{cod_left, segment_left, shape_left, stream_left, tile_left}
 use Rattle.jx_reduce.specs.Unreducible.{choice_at, first_choice, first_fewer, first_passing, has_fewer, passes_byte, tile_has_fewer}
 

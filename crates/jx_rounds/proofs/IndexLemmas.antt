@@ -13,7 +13,7 @@ use Rattle.jx_codestream.specs.First.{tile_number}
 use Rattle.jx_codestream.specs.Params.{header_of}
 use Rattle.jx_codestream.specs.Spells.{TilePart, all_bytes, part_bytes}
 use Rattle.jx_options.specs.declared.Marks.{Marks}
-use Rattle.jx_plan.specs.Groups.{HasFewEntries, IsPartCount, groups_of}
+use Rattle.jx_tile_parts.specs.Groups.{HasFewEntries, IsPartCount, groups_of}
 use Rattle.jx_plan.specs.Plan.{Plan, headers_of}
 use Rattle.jx_tier2_reader.specs.Written.{Packets, bytes_from}
 use Rattle.jx_tier2_writer.specs.Index.{entry_of, index_segments}

@@ -31,8 +31,8 @@ use Rattle.jx_tier2_writer.specs.BlockParts.{layer_bytes}
 use Rattle.jx_tier2_writer.specs.TileParts.{AreTilePartsOf, packet_length, packet_of, packets_of, written_part_header, parts_with, tile_part, tile_parts}
 use Rattle.jx_tier2_writer.specs.Tile.{AreAtMost}
 use Rattle.jx_options.specs.declared.Marks.{Marks}
-use Rattle.jx_plan.specs.Groups.{groups_of}
-use Rattle.jx_plan.proofs.GroupLemmas.{groups_all}
+use Rattle.jx_tile_parts.specs.Groups.{groups_of}
+use Rattle.jx_tile_parts.proofs.GroupLemmas.{groups_all}
 
 -- ---- a leaf
 same_block : (s : Stream) (t : ℕ) (blocks own : List Block) (p : PacketName) (j : ℕ) → GeometryInRange (geometry s t) → AreOwn s t blocks own → HasPrecinct (geometry s t) p.comp p.res p.precinct

@@ -7,8 +7,8 @@ use Rattle.jx_progression.specs.declared.names.PacketName.{PacketName}
 use Rattle.jx_codestream.specs.declared.Stream.{Stream}
 use Rattle.jx_codestream.specs.Spells.{TilePart, part_bytes}
 use Rattle.jx_options.specs.declared.Marks.{Marks}
-use Rattle.jx_plan.specs.Groups.{groups_of, more_groups}
-use Rattle.jx_plan.proofs.GroupLemmas.{more_cut, none_left, part_length}
+use Rattle.jx_tile_parts.specs.Groups.{groups_of, more_groups}
+use Rattle.jx_tile_parts.proofs.GroupLemmas.{more_cut, none_left, part_length}
 use Rattle.jx_tier2_writer.specs.Packed.{own_part, own_parts, packed_parts_from}
 use Rattle.jx_tier2_writer.specs.Tile.{AreAtMost}
 

@@ -21,7 +21,7 @@ use Rattle.jx_codestream.specs.Params.{header_of}
 use Rattle.jx_codestream.specs.Spells.{TilePart, part_bytes}
 use Rattle.jx_tier2_reader.specs.Written.{Packets, bytes_from}
 use Rattle.jx_options.specs.declared.Marks.{Marks}
-use Rattle.jx_plan.specs.Groups.{groups_of}
+use Rattle.jx_tile_parts.specs.Groups.{groups_of}
 use Rattle.jx_tier2_writer.specs.TileParts.{AreTilePartsOf, packet_length, packets_of, parts_with, tile_part, written_part_header}
 use Rattle.jx_tier2_writer.proofs.MadeLemmas.{part_long}
 use Rattle.jx_codestream.proofs.OneLemmas.{drop_on}

@@ -20,7 +20,7 @@ use Rattle.jx_codestream.specs.Tiles.{entries_joined, entry_in, in_slot, or_list
 use Rattle.jx_tile.specs.Covered.{IsListOf}
 use Rattle.jx_tier2_reader.specs.Written.{Packets, packets_in}
 use Rattle.jx_options.specs.declared.Marks.{Marks}
-use Rattle.jx_plan.specs.Groups.{HasFewEntries, IsPartCount}
+use Rattle.jx_tile_parts.specs.Groups.{HasFewEntries, IsPartCount}
 use Rattle.jx_tier2_writer.specs.Index.{entry_of, index_of, indexed}
 use Rattle.jx_tier2_writer.specs.Ready.{AreReady, IsTileReady, cod_at}
 use Rattle.jx_tier2_writer.specs.TileParts.{parts_with}

@@ -29,8 +29,8 @@ use Rattle.jx_codeblock.specs.declared.LayerEnd.{LayerEnd}
 use Rattle.jx_codeblock.specs.FirstLayers.{HasFirstLayers}
 use Rattle.jx_codeblock.specs.Jobs.{IsAsked}
 use Rattle.jx_codeblock.specs.Written.{is_wrong, style_for}
-use Rattle.jx_layers.specs.Causal.{breaks_plane, first_broken}
-use Rattle.jx_layers.specs.Layers.{ends_of}
+use Rattle.jx_plan.specs.Causal.{breaks_plane, first_broken}
+use Rattle.jx_plan.specs.Layers.{ends_of}
 use Rattle.jx_layers.specs.Rule.{Rule}
 use Rattle.jx_options.specs.declared.Marks.{Marks}
 use Rattle.jx_plan.specs.Asides.{is_informational, is_left_out, is_plt}

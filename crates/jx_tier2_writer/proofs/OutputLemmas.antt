@@ -45,8 +45,8 @@ use Rattle.jx_tier2_writer.proofs.StrictLemmas.{has_eph, has_sop, strict_made}
 use Rattle.jx_marker.specs.declared.Cod.{Cod}
 use Rattle.jx_codestream.specs.Params.{cod_or, header_in, header_of}
 use Rattle.jx_options.specs.declared.Marks.{Marks}
-use Rattle.jx_plan.specs.Groups.{HasFewParts, IsPartCount, groups_of}
-use Rattle.jx_plan.proofs.GroupLemmas.{groups_stay, some_group}
+use Rattle.jx_tile_parts.specs.Groups.{HasFewParts, IsPartCount, groups_of}
+use Rattle.jx_tile_parts.proofs.GroupLemmas.{groups_stay, some_group}
 use Rattle.jx_tier2_writer.specs.TileParts.{AreTilePartsOf, IsOutput, packets_of, tile_parts}
 use Rattle.jx_tier2_writer.proofs.ReadyLemmas.{ready_list, ready_whole}
 use Rattle.jx_tier2_writer.proofs.ReadLemmas.{IsCutInto, alike, all_of, filled, header_with, is_read, no_notes, parts_there, progressions_same}

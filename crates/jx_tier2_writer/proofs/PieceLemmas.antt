@@ -11,7 +11,7 @@ use Rattle.jx_codestream.specs.Params.{header_of}
 use Rattle.jx_codestream.specs.Spells.{TilePart, part_bytes}
 use Rattle.jx_tier2_reader.specs.Written.{Packets, bytes_from, packet_bytes}
 use Rattle.jx_options.specs.declared.Marks.{Marks}
-use Rattle.jx_plan.proofs.GroupLemmas.{part_length}
+use Rattle.jx_tile_parts.proofs.GroupLemmas.{part_length}
 use Rattle.jx_tier2_writer.specs.Packed.{own_length, own_packets, own_part, own_parts}
 use Rattle.jx_tier2_writer.specs.Pieces.{IsPartOut, packet_pieces, part_pieces, pieces_with, tile_pieces}
 use Rattle.jx_tier2_writer.specs.TileParts.{written_part_header}

@@ -14,7 +14,7 @@ use Rattle.jx_plan.specs.Asides.{is_informational, is_left_out}
 use Rattle.jx_plan.specs.Headers.{comp_written, params_written, rsiz_written, with_layers}
 use Rattle.jx_plan.specs.Meaning.{meaning_of}
 use Rattle.jx_codeblock.specs.FirstLayers.{HasFirstLayers}
-use Rattle.jx_layers.specs.Layers.{ends_of}
+use Rattle.jx_plan.specs.Layers.{ends_of}
 use Rattle.jx_layers.specs.Rule.{Rule}
 use Rattle.jx_plan.specs.Planned.{blocks_written, layers_of_rule}
 use Rattle.jx_options.specs.Wanted.{Wanted}

@@ -16,7 +16,7 @@ use Rattle.jx_tile.specs.Cells.{precinct_bands}
 use Rattle.jx_marker.specs.Codes.{eph_spelling}
 use Rattle.jx_tier2_reader.specs.Written.{Packets, WrittenPacket, bytes_from, packet_bytes, sop_bytes}
 use Rattle.jx_options.specs.declared.Marks.{Marks}
-use Rattle.jx_plan.specs.Groups.{groups_of}
+use Rattle.jx_tile_parts.specs.Groups.{groups_of}
 use Rattle.jx_tier2_writer.specs.Own.{leaf_bytes, own_header, own_leaves}
 use Rattle.jx_tier2_writer.specs.TileParts.{written_part_header, parts_with, tile_part}
 

@@ -18,7 +18,7 @@ use Rattle.jx_tile.specs.Covered.{IsListOf}
 use Rattle.jx_tile.specs.Totals.{totals_fault}
 use Rattle.jx_tier2_writer.specs.Told.{has_lengths}
 use Rattle.jx_options.specs.declared.Marks.{Marks}
-use Rattle.jx_plan.specs.Groups.{HasFewEntries, HasFewParts}
+use Rattle.jx_tile_parts.specs.Groups.{HasFewEntries, HasFewParts}
 use Rattle.jx_tier2_writer.specs.Index.{indexed}
 
 -- what SOP and EPH a tile's COD, or else the main one, announces

@@ -20,7 +20,7 @@ use Rattle.jx_tier2_reader.specs.Planned.{leaves_of_blocks}
 use Rattle.jx_tier2_reader.specs.Written.{WrittenPacket, Packets, packet_bytes, bytes_from}
 use Rattle.jx_tile.specs.Covered.{IsListOf}
 use Rattle.jx_options.specs.declared.Marks.{Marks}
-use Rattle.jx_plan.specs.Groups.{groups_of}
+use Rattle.jx_tile_parts.specs.Groups.{groups_of}
 use Rattle.jx_tier2_writer.specs.Index.{index_of}
 use Rattle.jx_tier2_writer.specs.Lengths.{length_segments}
 

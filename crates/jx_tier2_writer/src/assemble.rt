@@ -11,7 +11,7 @@ ghost use Rattle.jx_codestream.specs.Shapes.{layers_of};
 ghost use Rattle.jx_codestream.specs.Spells.{AreSegments, part_bytes};
 ghost use Rattle.jx_tile.specs.Covered.{IsListOf};
 ghost use Rattle.jx_tile.specs.Frame.{AreOfTile};
-ghost use Rattle.jx_plan.specs.Groups.{HasFewParts, groups_of};
+ghost use Rattle.jx_tile_parts.specs.Groups.{HasFewParts, groups_of};
 ghost use Rattle.jx_tier2_writer.specs.Assembled.{AreOwn, AreTileBytes, HasMoreBytes};
 ghost use Rattle.jx_tier2_writer.specs.Names.{AreSendings, tile_names};
 ghost use Rattle.jx_tier2_writer.specs.Own.{AreOwnBlocks};
@@ -28,8 +28,8 @@ use jx_base::NoMemory;
 use jx_codestream::{Stream, TileView};
 use jx_geom::TileGeom;
 use jx_options::Marks;
-use jx_plan::{count_parts, part_end};
 use jx_progression::PacketName;
+use jx_tile_parts::{count_parts, part_end};
 use std::alloc::Global;
 
 /// What a tile is written from, but for its headers and its blocks: what is sent of each precinct, its packets in their order, and its

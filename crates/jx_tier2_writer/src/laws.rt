@@ -42,7 +42,7 @@ ghost use Rattle.jx_tier2_writer.specs.TileParts.{AreTilePartsOf, IsOutput};
 ghost use Rattle.jx_base.specs.Limits.{most_bytes};
 
 use jx_codeblock::laws::first_layers_are_final;
-use jx_layers::laws::{breaks_are_told, jobs_have_these_ends};
+use jx_plan::layer_laws::{breaks_are_told, jobs_have_these_ends};
 use jx_plan::laws::{
     meaning_stays, parameters_stay, written_blocks_stand, written_headers_are_plain,
     written_headers_stand,

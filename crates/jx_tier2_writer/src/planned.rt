@@ -11,7 +11,7 @@ ghost use Rattle.jx_codestream.specs.Shapes.{geometry};
 ghost use Rattle.jx_codestream.specs.Spells.{AreSegments};
 ghost use Rattle.jx_tile.specs.Covered.{IsWhole};
 ghost use Rattle.jx_tile.specs.Totals.{totals_fault};
-ghost use Rattle.jx_plan.specs.Groups.{HasFewParts};
+ghost use Rattle.jx_tile_parts.specs.Groups.{HasFewParts};
 ghost use Rattle.jx_plan.specs.Plan.{IsPlan, headers_of};
 ghost use Rattle.jx_tier2_writer.specs.Assembled.{AreOwn, AreTileBytes, HasMoreBytes};
 ghost use Rattle.jx_tier2_writer.specs.Own.{AreOwnBlocks};

@@ -16,13 +16,13 @@ use Rattle.jx_codestream.specs.Spells.{TilePart}
 use Rattle.jx_codestream.specs.declared.faults.StreamFault.TheVariants as fault
 use Rattle.jx_tier2_reader.specs.Accepted.{IsAccepted}
 use Rattle.jx_layers.specs.declared.StreamFacts.{StreamFacts}
-use Rattle.jx_layers.specs.Facts.{facts_of}
+use Rattle.jx_plan.specs.Facts.{facts_of}
 use Rattle.jx_layers.specs.Rule.{Rule, layers_by}
 use Rattle.jx_plan.specs.declared.faults.PlanFault.{PlanFault}
 use Rattle.jx_plan.specs.declared.faults.PlanFault.TheVariants as unplanned
 use Rattle.jx_plan.specs.Plan.{MayBePlanned, headers_with}
 use Rattle.jx_plan.specs.Planned.{HasPlanCause, MakesLayers, layers_of_rule}
-use Rattle.jx_layers.specs.Layers.{written_by}
+use Rattle.jx_plan.specs.Layers.{written_by}
 use Rattle.jx_generate.specs.OneLayer.{entry_of_layers}
 use Rattle.jx_tier2_writer.specs.Ready.{AreShort}
 use Rattle.jx_tier2_writer.specs.TileParts.{AreTilePartsOf}

@@ -34,15 +34,15 @@ use Rattle.jx_tile.specs.Totals.{packet_total, tile_packets, totals_fault}
 use Rattle.jx_codeblock.specs.declared.LayerEnd.{LayerEnd}
 use Rattle.jx_codeblock.specs.Recoding.{own_segments, wrong_in}
 use Rattle.jx_codeblock.specs.Written.{is_wrong, style_for}
-use Rattle.jx_layers.specs.Causal.{breaks_plane, first_broken}
-use Rattle.jx_layers.specs.Crowded.{IsCrowdedBlock}
-use Rattle.jx_layers.specs.Layers.{HasMany, ends_by, ends_of, passes_to}
+use Rattle.jx_plan.specs.Causal.{breaks_plane, first_broken}
+use Rattle.jx_plan.specs.Crowded.{IsCrowdedBlock}
+use Rattle.jx_plan.specs.Layers.{HasMany, ends_by, ends_of, passes_to}
 use Rattle.jx_layers.specs.Rule.{Rule}
 use Rattle.jx_plan.specs.declared.faults.PlanFault.{PlanFault}
 use Rattle.jx_plan.specs.declared.faults.PlanFault.TheVariants as fault
 use Rattle.jx_options.specs.declared.PartChoice.TheVariants as part
 use Rattle.jx_plan.specs.Fits.{AreUnfit, Fits, IsUnfit}
-use Rattle.jx_plan.specs.Groups.{HasManyParts, groups_of}
+use Rattle.jx_tile_parts.specs.Groups.{HasManyParts, groups_of}
 use Rattle.jx_plan.specs.Headers.{stream_written}
 use Rattle.jx_plan.specs.Plan.{MayBePlanned, headers_with, most_packets}
 use Rattle.jx_plan.specs.Planned.{HasPlanCause, IsUnplannedBy, LacksPlan, MakesLayers, layers_of_rule}

@@ -45,12 +45,12 @@ use Rattle.jx_codeblock.specs.declared.LayerEnd.{LayerEnd}
 use Rattle.jx_codeblock.specs.Jobs.{IsAsked}
 use Rattle.jx_codeblock.specs.Recoding.{Recoding, recoded_pieces, recoding, wrong_in}
 use Rattle.jx_codeblock.specs.Written.{block_with, style_for, written_in}
-use Rattle.jx_layers.specs.Causal.{breaks_plane}
-use Rattle.jx_layers.specs.Layers.{ends_of, written_by}
+use Rattle.jx_plan.specs.Causal.{breaks_plane}
+use Rattle.jx_plan.specs.Layers.{ends_of, written_by}
 use Rattle.jx_layers.specs.Rule.{Rule}
 use Rattle.jx_options.specs.declared.PartChoice.TheVariants as part
 use Rattle.jx_options.specs.declared.Marks.{Marks}
-use Rattle.jx_plan.specs.Groups.{groups_of}
+use Rattle.jx_tile_parts.specs.Groups.{groups_of}
 use Rattle.jx_plan.specs.Headers.{stream_written}
 use Rattle.jx_plan.specs.Plan.{headers_with}
 use Rattle.jx_generate.specs.Headers.{AreSizes}

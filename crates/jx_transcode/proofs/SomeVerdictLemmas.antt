@@ -18,7 +18,7 @@ use Rattle.jx_tile.specs.Totals.{totals_fault}
 use Rattle.jx_options.specs.declared.Marks.{Marks}
 use Rattle.jx_plan.specs.declared.faults.PlanFault.{PlanFault}
 use Rattle.jx_plan.specs.declared.faults.PlanFault.TheVariants as unplanned
-use Rattle.jx_layers.specs.Facts.{facts_of}
+use Rattle.jx_plan.specs.Facts.{facts_of}
 use Rattle.jx_layers.specs.Rule.{Rule}
 use Rattle.jx_plan.specs.Causes.{IsFree}
 use Rattle.jx_plan.specs.Plan.{MayBePlanned, headers_with}

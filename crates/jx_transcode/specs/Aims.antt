@@ -5,7 +5,7 @@ use Rattle.jx_base.specs.Limits.{most_bytes}
 use Rattle.jx_base.specs.declared.pieces.Block.{Block}
 use Rattle.jx_codestream.specs.declared.Stream.{Stream}
 use Rattle.jx_layers.specs.declared.StreamFacts.{StreamFacts}
-use Rattle.jx_layers.specs.Facts.{facts_of}
+use Rattle.jx_plan.specs.Facts.{facts_of}
 use Rattle.jx_layers.specs.Rule.{Rule, layers_by}
 use Rattle.jx_options.specs.Wanted.{MayBeWanted, Wanted}
 

@@ -1,7 +1,7 @@
 use Rattle.std.proofs.Common.{rules, ◌≡◌, ◌<◌, ◌^◌, ap}
 use Rattle.std.proofs.lemmas.Result.{IfErr-weaker}
 use Rattle.jx_options.specs.Wanted.{Wanted}
-use Rattle.jx_plan.specs.Groups.{HasFewEntries}
+use Rattle.jx_tile_parts.specs.Groups.{HasFewEntries}
 use Rattle.jx_plan.specs.Plan.{headers_with}
 use Rattle.jx_plan.proofs.CauseLemmas.{claim_made, entries_made, met_made, unmet_late}
 use Rattle.jx_plan.proofs.PlanLemmas.{headers_in_range, headers_pass}

@@ -1,5 +1,5 @@
 use Rattle.std.proofs.Common.{ℕ, ◌<◌, ◌≤◌, ◌*◌}
-use Rattle.jx_plan.specs.Groups.{HasFewParts}
+use Rattle.jx_tile_parts.specs.Groups.{HasFewParts}
 use Rattle.jx_plan.proofs.PartedLemmas.{IsTotalBelow}
 use Rattle.jx_plan.proofs.parting.all_parts.Given as goal
 

@@ -2,7 +2,7 @@ use Rattle.std.proofs.Common.{◌≡◌, ◌∙◌, ap, length, subst, List}
 use Rattle.jx_progression.specs.declared.names.PacketName.{PacketName}
 use Rattle.jx_tile.specs.Covered.{IsListOf}
 use Rattle.jx_tile.specs.Frame.{TileOf}
-use Rattle.jx_plan.specs.Groups.{groups_of}
+use Rattle.jx_tile_parts.specs.Groups.{groups_of}
 use Rattle.jx_plan.proofs.parting.part_count.Goals as goal
 
 pub returns : goal.returns

@@ -1,6 +1,6 @@
 use Rattle.std.proofs.Common.{◌≡◌, ◌∙◌, List, Option, IfOk, MatchResult, ap, inr, refl, sym, subst}
 use Rattle.std.proofs.lemmas.Result.{IfErr-weaker}
-use Rattle.jx_layers.specs.Facts.{facts_of}
+use Rattle.jx_plan.specs.Facts.{facts_of}
 use Rattle.jx_layers.specs.Rule.{Rule}
 use Rattle.jx_options.specs.Wanted.{Wanted}
 use Rattle.jx_plan.specs.declared.faults.PlanFault.TheVariants as fault

@@ -5,8 +5,8 @@ use Rattle.jx_base.specs.declared.pieces.Block.{Block}
 use Rattle.jx_progression.specs.declared.names.PacketName.{PacketName}
 use Rattle.jx_codestream.specs.Spells.{part_bytes}
 use Rattle.jx_tier2_reader.specs.Written.{bytes_from}
-use Rattle.jx_plan.specs.Groups.{more_groups}
-use Rattle.jx_plan.proofs.GroupLemmas.{count_next, part_length}
+use Rattle.jx_tile_parts.specs.Groups.{more_groups}
+use Rattle.jx_tile_parts.proofs.GroupLemmas.{count_next, part_length}
 use Rattle.jx_tier2_writer.specs.Packed.{own_packets, own_part}
 use Rattle.jx_tier2_writer.specs.Pieces.{IsPartOut, part_pieces, pieces_with}
 use Rattle.jx_tier2_writer.specs.declared.tile_part.PartOut.{PartOut}

@@ -1,6 +1,6 @@
 use Rattle.std.proofs.Common.{◌≡◌, ◌≤◌, ◌+◌, ◌-◌, All, drop, length, map}
 use Rattle.std.specs.List.{concat}
-use Rattle.jx_plan.specs.Groups.{more_groups}
+use Rattle.jx_tile_parts.specs.Groups.{more_groups}
 use Rattle.jx_tier2_writer.specs.Packed.{own_packets}
 use Rattle.jx_tier2_writer.specs.Pieces.{IsPartOut, pieces_with}
 use Rattle.jx_tier2_writer.proofs.CutLemmas.{IsCut}

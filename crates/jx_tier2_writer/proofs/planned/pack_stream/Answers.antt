@@ -13,7 +13,7 @@ use Rattle.jx_codestream.specs.Spells.{AreSegments}
 use Rattle.jx_tile.specs.Covered.{IsListOf}
 use Rattle.jx_tile.specs.Frame.{TileOf}
 use Rattle.jx_tile.proofs.FrameLemmas.{frame_to, parts_from, parts_to}
-use Rattle.jx_plan.specs.Groups.{HasFewParts}
+use Rattle.jx_tile_parts.specs.Groups.{HasFewParts}
 use Rattle.jx_tier2_writer.specs.Assembled.{AreOwn, AreTileBytes, HasMoreBytes}
 use Rattle.jx_tier2_writer.specs.Own.{AreOwnBlocks}
 use Rattle.jx_tier2_writer.specs.Packed.{own_packets}

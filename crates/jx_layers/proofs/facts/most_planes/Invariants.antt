@@ -1,6 +1,0 @@
-use Rattle.std.proofs.Common.{◌≡◌, drop, max}
-use Rattle.jx_layers.specs.Facts.{most_planes}
-use Rattle.jx_layers.proofs.facts.most_planes.Given as goal
-
-abbrev pub invariant-loop-block : goal.invariant-loop-block
-invariant-loop-block l = max l.most (most_planes (drop l.block-index l.blocks)) ≡ most_planes l.blocks

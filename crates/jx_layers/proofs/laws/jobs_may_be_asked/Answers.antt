@@ -1,5 +1,0 @@
-use Rattle.jx_layers.proofs.CausalLemmas.{asked_of}
-use Rattle.jx_layers.proofs.laws.jobs_may_be_asked.Goals as goal
-
-pub returns : goal.returns
-returns c = λ style rule layers blocks number b job sound clear is. asked_of style rule layers blocks number b job sound clear is

@@ -1,5 +1,0 @@
-use Rattle.jx_layers.proofs.OneLemmas.{keeps}
-use Rattle.jx_layers.proofs.laws.kept_layers_stay.Goals as goal
-
-pub returns : goal.returns
-returns c = λ style layers blocks number b job some sound all is. keeps style layers blocks number b job sound all is
