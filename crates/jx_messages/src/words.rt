@@ -37,7 +37,7 @@ fn stands_alone(word: &str) -> bool
     bytes.len() >= 2
         && bytes[0] == b'-'
         && bytes[1] == b'-'
-        && (names_flag(&bytes[2..]) || word == "--json")
+        && names_flag(&bytes[2..])
 }
 
 /// Whether an option has a value of its own, behind `=`.
