@@ -2,13 +2,16 @@
 use Rattle.std.proofs.Common.{◌≡◌, ◌∙◌, ◌++◌, ◌&&◌, ◌||◌, ap, refl, sym, subst, true≢false, true, false, Bool, List, [], ◌∷◌, Option, Some, None, find, fold, is_some, inl, inr, if◌then◌else◌, append-nil}
 use Rattle.std.specs.Option.{option_or}
 use Rattle.std.specs.Str.{bytes_eq}
-use Rattle.std.proofs.lemmas.Bool.{cases_Bool}
+use Rattle.std.specs.List.{list_all}
+use Rattle.std.proofs.lemmas.Bool.{and_parts, cases_Bool}
 use Rattle.std.proofs.lemmas.List.Folds.{find-append}
 use Rattle.std.proofs.lemmas.Slice.Eq.{bytes_eq-Decides}
 use Rattle.clap.specs.declared.builder.value_parser.Reading.{Reading}
 use Rattle.clap.specs.declared.parser.matches.ValueSource.{ValueSource}
 use Rattle.clap.specs.declared.parser.matches.ValueSource.TheVariants.{DefaultValue}
-use Rattle.clap.specs.Walk.{Row, Rule, Text, at_row, default_rows, has_row, more_values, reading_by, with_default, with_values, without}
+use Rattle.clap.specs.Faults.{default_fault, defaults_fault, given_default_fault}
+use Rattle.clap.specs.Kinds.{Kinds}
+use Rattle.clap.specs.Walk.{Row, Rule, Text, at_row, default_rows, has_row, is_empty, more_values, reading_by, with_default, with_values, without}
 
 abbrev pub look : Text → List Row → Option Row
 look name rows = find (λ r. bytes_eq r.id name) rows
@@ -93,7 +96,7 @@ not_there : (o : Option Row) → is_some o ≡ false → o ≡ None
 not_there None none = refl
 not_there (Some r) none = absurd (true≢false none)
 
-or_nothing : (o : Option Row) → o ≡ option_or o None
+pub or_nothing : (o : Option Row) → o ≡ option_or o None
 or_nothing None = refl
 or_nothing (Some r) = refl
 
@@ -106,3 +109,25 @@ defaulted name (a ∷ rules) rows = defaulted name rules (with_default rows a) �
       let none : look a.id rows ≡ None = not_there (look a.id rows) (sym (has_looked a.id rows) ∙ t) in
       rw t (absent name a.id (reading_by a) a.defaults rows (default_of name rules) none)
 ]
+
+-- ---- no default is refused
+abbrev no_kinds : Kinds → Bool
+no_kinds [] = true
+no_kinds (kind ∷ kinds) = false
+
+abbrev pub may_default : Rule → Bool
+may_default a = is_empty a.defaults || no_kinds (given_default_fault a a.defaults)
+
+pub no_default_fault : (rules : List Rule) (rows : List Row) → list_all may_default rules ≡ true → defaults_fault rows rules ≡ []
+unfolding defaults_fault
+no_default_fault [] rows may = refl
+no_default_fault (a ∷ rules) rows may =
+    let parts = and_parts (may_default a) (list_all may_default rules) may in
+    let here : default_fault rows a ≡ [] = by (has_row a.id rows) (is_empty a.defaults) (given_default_fault a a.defaults) parts.0 in
+    rw here (no_default_fault rules (with_default rows a) parts.1)
+  where
+    by : (has empty : Bool) (kinds : Kinds) → (empty || no_kinds kinds) ≡ true → (if has || empty then [] else kinds) ≡ []
+    by true empty kinds may = refl
+    by false true kinds may = refl
+    by false false [] may = refl
+    by false false (kind ∷ kinds) may = absurd (true≢false (sym may))

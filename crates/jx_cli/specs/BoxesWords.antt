@@ -1,5 +1,5 @@
 -- What the words of `jx boxes` ask for: the boxes of a file.
-use Rattle.std.specs.Prelude.{◌≡◌, ℕ, true, ◌&&◌, Bool, List, [], ◌∷◌, length, drop, slice_index_or, codes, eqb, is_some, Option, unwrap_or}
+use Rattle.std.specs.Prelude.{◌≡◌, ℕ, true, ◌&&◌, Bool, List, [], length, drop, slice_index_or, codes, eqb, is_some, Option, unwrap_or}
 use Rattle.std.specs.Str.{bytes_eq}
 use Rattle.clap.specs.Words.{App, fault_of, new_app}
 use Rattle.jx_cli.specs.Command.{with_options, with_place}
