@@ -97,7 +97,8 @@ fn pair_by(alloc: Global, matches: &ArgMatches<'_>) -> Result<Pair, WordsFault>
     ensures value { IfOk result (λ pair. pair ≡ pair_by (first_value (found_of matches.now))) }
     ensures words { result ≡ Err WordsFault.Words → are_numbers (first_value (found_of matches.now)) ≡ false }
 {
-    let Some(threads) = OptionName::CompareThreads.number(said_of(matches, OptionName::CompareThreads)) else {
+    let threads = said_of(matches, OptionName::CompareThreads);
+    let Some(threads) = OptionName::CompareThreads.number(threads) else {
         return Err(WordsFault::Words);
     };
     let Some(limit) = limit_in(matches) else {

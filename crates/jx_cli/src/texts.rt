@@ -2,13 +2,15 @@
 
 pub(crate) static VERSION: &str = "0.9";
 
-pub(crate) static ABOUT: &str = "Changes how a JPEG 2000 codestream is packed, and no coefficient of it.";
+pub(crate) static ABOUT: &str =
+    "Changes how a JPEG 2000 codestream is packed, and no coefficient of it.";
 
 pub(crate) static MORE: &str = "\
 One line on standard output says how it went, a sentence on standard error
 why it was refused. jx transcode --help says all options, with examples.";
 
-pub(crate) static TRANSCODE: &str = "Writes a codestream packed anew: order, layers, precincts, style";
+pub(crate) static TRANSCODE: &str =
+    "Writes a codestream packed anew: order, layers, precincts, style";
 
 pub(crate) static EXAMPLES: &str = "\
 Examples:

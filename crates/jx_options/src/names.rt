@@ -179,11 +179,7 @@ impl OptionName {
     {
         matches!(
             self,
-            OptionName::Sop
-                | OptionName::Eph
-                | OptionName::Plt
-                | OptionName::Tlm
-                | OptionName::Json
+            OptionName::Sop | OptionName::Eph | OptionName::Plt | OptionName::Tlm | OptionName::Json
         )
     }
 
