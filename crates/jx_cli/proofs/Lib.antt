@@ -2,9 +2,12 @@ mod ApartLemmas
 mod BoxesLemmas
 mod CommandLemmas
 mod CommandWordLemmas
+mod FlagLemmas
 mod GoodLemmas
 mod MadeLemmas
 mod MakeLemmas
+mod RowLemmas
 mod SameLemmas
 mod ShowLemmas
+mod ValueLemmas
 mod WantedLemmas

@@ -8,7 +8,7 @@ use Rattle.jx_cli.specs.MakeFound.{texts_of, under}
 use Rattle.jx_cli.specs.SameWords.{AsksSame, MayBeCompared, Pair, are_numbers, is_asked, is_same, is_taken, pair_by, same, same_of}
 use Rattle.jx_cli.specs.Words.{Text, said_of}
 use Rattle.jx_options.specs.declared.names.OptionName.TheVariants as option
-use Rattle.jx_options.specs.Names.{threads_said}
+use Rattle.jx_options.specs.Names.{number_said}
 use Rattle.jx_options.proofs.NumberLemmas.{number_spelled}
 use Rattle.jx_cli.proofs.BoxesLemmas.{no_fault}
 use Rattle.jx_cli.proofs.CommandLemmas.{asked_by, none_moved, some_moved, texts_moved, unasked_by}
@@ -35,7 +35,7 @@ paired a words found names is same_texts by = by ∙ ap pair_by (same_texts ∙ 
 pub pair_may_be : (found : Text → Option Text) → MayBeCompared (pair_by found)
 unfolding pair_by
 pair_may_be found =
-    let within = number_within 64 1 (said_of found option.Threads) (omega arith, omega arith) in
+    let within = number_within 64 1 (said_of found option.CompareThreads) (omega arith, omega arith) in
     record { some_threads = within.0; few_threads = within.1; limit = limit_within (said_of found option.LimitBytes) }
 
 pub words_may_be : (words : List Text) → MayBeCompared (same_of words)
@@ -58,7 +58,7 @@ second_found : (first second threads limit : Text) → under (texts_of same (wor
 unfolding clap_on_literals same with_option with_place
 second_found first second threads limit = refl
 
-threads_found : (first second threads limit : Text) → said_of (texts_of same (words_for first second threads limit)) option.Threads ≡ threads
+threads_found : (first second threads limit : Text) → said_of (texts_of same (words_for first second threads limit)) option.CompareThreads ≡ threads
 unfolding clap_on_literals same with_option with_place
 threads_found first second threads limit = refl
 
@@ -66,7 +66,7 @@ limit_found : (first second threads limit : Text) → said_of (texts_of same (wo
 unfolding clap_on_literals same with_option with_place
 limit_found first second threads limit = refl
 
-threads_back : (n : ℕ) → 1 ≤ n → n ≤ 64 → threads_said (decimal n) ≡ Some n
+threads_back : (n : ℕ) → 1 ≤ n → n ≤ 64 → number_said option.CompareThreads (decimal n) ≡ Some n
 threads_back n some few = number_spelled 64 n (omega arith) some few
 
 abbrev words_of : Pair → List Text

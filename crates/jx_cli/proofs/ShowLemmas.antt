@@ -1,13 +1,12 @@
 -- Words of `show`, and what they ask for.
 use Rattle.std.proofs.Common.{◌≡◌, ◌∙◌, ap, refl, sym, Bool, true, false, List, [], ◌∷◌, ◌++◌, Option, codes, drop, eqb, is_some, length}
 use Rattle.std.specs.Fmt.{decimal}
-use Rattle.std.specs.Str.{bytes_eq}
-use Rattle.clap.specs.Words.{App, Rule, fault_of, is_simple_and_free, with_rule}
+use Rattle.clap.specs.Words.{App, fault_of, is_simple_and_free}
 use Rattle.clap.proofs.OnLiterals.{clap_on_literals}
-use Rattle.jx_cli.specs.Command.{flag_rule, with_flag, with_option, with_place}
+use Rattle.jx_cli.specs.Command.{with_flag, with_option, with_place}
 use Rattle.jx_cli.specs.MakeFound.{texts_of, under}
 use Rattle.jx_cli.specs.ShowWords.{AsksShow, Show, is_asked, is_show, show, show_by, show_of}
-use Rattle.jx_cli.specs.Words.{Text, limit_in, said_of}
+use Rattle.jx_cli.specs.Words.{Text, flag_of, limit_in, said_of}
 use Rattle.jx_options.specs.declared.names.OptionName.TheVariants as option
 use Rattle.jx_options.specs.Work.{MayBeLimit}
 use Rattle.jx_cli.proofs.BoxesLemmas.{no_fault}
@@ -18,10 +17,6 @@ use Rattle.jx_cli.proofs.WantedLemmas.{limit_within}
 pub show_free : is_simple_and_free show ≡ true
 unfolding clap_on_literals show with_flag with_option with_place
 show_free = refl
-
-pub flag_added : (name : Text) (rule : Rule) (app more : App) → more ≡ with_rule app rule → rule ≡ flag_rule name → more ≡ with_flag name app
-unfolding with_flag
-flag_added name rule app more added same = added ∙ ap (with_rule app) same
 
 -- ---- what clap says of the words, by what the command is
 pub asked : (a : App) (words : List Text) (found : Text → Option Text) (b : Bool) → a ≡ show → fault_of a words ≡ [] → found ≡ texts_of a words → is_some (limit_in found) ≡ b → is_asked words ≡ b
@@ -59,7 +54,7 @@ unfolding clap_on_literals show with_flag with_option with_place
 name_found true name limit = refl
 name_found false name limit = refl
 
-json_found : (json : Bool) (name limit : Text) → bytes_eq (under (texts_of show (words_for json name limit)) (codes "json")) (codes "true") ≡ json
+json_found : (json : Bool) (name limit : Text) → flag_of (texts_of show (words_for json name limit)) option.Json ≡ json
 unfolding clap_on_literals show with_flag with_option with_place
 json_found true name limit = refl
 json_found false name limit = refl

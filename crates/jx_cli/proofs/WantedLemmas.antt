@@ -7,7 +7,8 @@ use Rattle.jx_base.specs.OrderNumbers.{IsOrderNumber}
 use Rattle.jx_marker.specs.Ranges.{AreBytes}
 use Rattle.jx_base.specs.declared.style.Style.{Style}
 use Rattle.jx_options.specs.Wanted.{MayBeStyle, MayBeWanted}
-use Rattle.jx_options.specs.Names.{order_said, reduce_said}
+use Rattle.jx_options.specs.Names.{reduce_said}
+use Rattle.jx_options.specs.Orders.{order_said}
 use Rattle.jx_options.specs.Values.{ArePrecincts, precincts_in, precincts_said, style_said, value_in, whole_choices}
 use Rattle.jx_cli.specs.Words.{Given, MayBeAsked, given_in, request_by, request_of, wanted_by, work_by}
 use Rattle.jx_base.specs.Limits.{most_bytes}

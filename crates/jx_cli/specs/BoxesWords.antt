@@ -1,20 +1,20 @@
 -- What the words of `jx boxes` ask for: the boxes of a file.
-use Rattle.std.specs.Prelude.{◌≡◌, ℕ, true, ◌&&◌, Bool, List, [], ◌∷◌, length, drop, slice_index_or, codes, eqb, is_some, Option, unwrap_or}
+use Rattle.std.specs.Prelude.{◌≡◌, ℕ, true, ◌&&◌, Bool, List, [], length, drop, slice_index_or, codes, eqb, is_some, Option, unwrap_or}
 use Rattle.std.specs.Str.{bytes_eq}
 use Rattle.clap.specs.Words.{App, fault_of, new_app}
 use Rattle.jx_cli.specs.Command.{with_options, with_place}
 use Rattle.jx_cli.specs.MakeFound.{texts_of, under}
 use Rattle.jx_cli.specs.Words.{Text, limit_in}
-use Rattle.jx_options.specs.declared.names.OptionName.TheVariants as option
+use Rattle.jx_options.specs.Names.{boxes_names}
 
 -- the name of a file, and the most bytes that it may have
 pub record Boxes : Type 0 where
   pub name : Text
   pub limit : ℕ
 
--- the command as clap is told of it: one word that has to be there, and one option of `transcode`
+-- the command as clap is told of it: one word that has to be there, and its options
 unfoldable pub boxes : App
-boxes = with_options (option.LimitBytes ∷ []) (with_place (codes "in") (new_app (codes "boxes")))
+boxes = with_options boxes_names (with_place (codes "in") (new_app (codes "boxes")))
 
 abbrev pub names_boxes : List Text → Bool
 names_boxes words = bytes_eq (slice_index_or words 1 []) (codes "boxes")

@@ -3,7 +3,7 @@ use Rattle.std.specs.Prelude.{Bool, true, false, Some, List, [], ◌∷◌, code
 use Rattle.clap.specs.Words.{App, Rule, Text, new_app, new_rule, with_rule}
 use Rattle.clap.specs.declared.builder.ArgAction.TheVariants.{Set, SetTrue}
 use Rattle.jx_options.specs.declared.names.OptionName.{OptionName}
-use Rattle.jx_options.specs.Names.{all_names, default_of, is_flag, name_of}
+use Rattle.jx_options.specs.Names.{transcode_names, default_of, is_flag, name_of}
 
 -- a word that has to be there
 abbrev pub place_rule : Text → Rule
@@ -40,4 +40,4 @@ with_options [] app = app
 with_options (name ∷ names) app = with_options names (with_named (is_flag name) (name_of name) (default_of name) app)
 
 unfoldable pub transcode : App
-transcode = with_options all_names (with_places (new_app (codes "transcode")))
+transcode = with_options transcode_names (with_places (new_app (codes "transcode")))

@@ -1,12 +1,12 @@
 -- What the words of `jx same` ask for: whether two files have the same coefficients, by so many threads.
-use Rattle.std.specs.Prelude.{◌≡◌, ◌≤◌, ℕ, true, ◌&&◌, Bool, List, [], ◌∷◌, length, drop, slice_index_or, codes, eqb, is_some, Option, unwrap_or}
+use Rattle.std.specs.Prelude.{◌≡◌, ◌≤◌, ℕ, true, ◌&&◌, Bool, List, [], length, drop, slice_index_or, codes, eqb, is_some, Option, unwrap_or}
 use Rattle.std.specs.Str.{bytes_eq}
 use Rattle.clap.specs.Words.{App, fault_of, new_app}
 use Rattle.jx_cli.specs.Command.{with_options, with_place}
 use Rattle.jx_cli.specs.MakeFound.{texts_of, under}
 use Rattle.jx_cli.specs.Words.{Text, limit_in, said_of}
 use Rattle.jx_options.specs.declared.names.OptionName.TheVariants as option
-use Rattle.jx_options.specs.Names.{threads_said}
+use Rattle.jx_options.specs.Names.{number_said, same_names}
 use Rattle.jx_options.specs.Work.{MayBeLimit}
 
 -- the names of two files, how many threads compare them, and the most bytes that each may have
@@ -22,9 +22,9 @@ pub record MayBeCompared (p : Pair) : Type 0 where
   pub few_threads : p.threads ≤ 64
   pub limit : MayBeLimit p.limit
 
--- the command as clap is told of it: two words that have to be there, and two options of `transcode`
+-- the command as clap is told of it: two words that have to be there, and its options
 unfoldable pub same : App
-same = with_options (option.Threads ∷ option.LimitBytes ∷ []) (with_place (codes "b") (with_place (codes "a") (new_app (codes "same"))))
+same = with_options same_names (with_place (codes "b") (with_place (codes "a") (new_app (codes "same"))))
 
 abbrev pub names_same : List Text → Bool
 names_same words = bytes_eq (slice_index_or words 1 []) (codes "same")
@@ -35,7 +35,7 @@ is_taken words = eqb (length (fault_of same words)) 0
 
 -- ---- by the text that clap finds under each name
 abbrev pub threads_in : (Text → Option Text) → Option ℕ
-threads_in found = threads_said (said_of found option.Threads)
+threads_in found = number_said option.CompareThreads (said_of found option.CompareThreads)
 
 -- both texts say a number
 abbrev pub are_numbers : (Text → Option Text) → Bool

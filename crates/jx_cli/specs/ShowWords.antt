@@ -1,11 +1,12 @@
 -- What the words of `jx show` ask for: what a file's codestream is, in lines or as a JSON object.
-use Rattle.std.specs.Prelude.{◌≡◌, ℕ, true, ◌&&◌, Bool, List, [], ◌∷◌, length, drop, slice_index_or, codes, eqb, is_some, Option, unwrap_or}
+use Rattle.std.specs.Prelude.{◌≡◌, ℕ, true, ◌&&◌, Bool, List, [], length, drop, slice_index_or, codes, eqb, is_some, Option, unwrap_or}
 use Rattle.std.specs.Str.{bytes_eq}
 use Rattle.clap.specs.Words.{App, fault_of, new_app}
-use Rattle.jx_cli.specs.Command.{with_flag, with_options, with_place}
+use Rattle.jx_cli.specs.Command.{with_options, with_place}
 use Rattle.jx_cli.specs.MakeFound.{texts_of, under}
-use Rattle.jx_cli.specs.Words.{Text, limit_in}
+use Rattle.jx_cli.specs.Words.{Text, flag_of, limit_in}
 use Rattle.jx_options.specs.declared.names.OptionName.TheVariants as option
+use Rattle.jx_options.specs.Names.{show_names}
 
 -- the name of a file, whether JSON is said, and the most bytes that the file may have
 pub record Show : Type 0 where
@@ -13,9 +14,9 @@ pub record Show : Type 0 where
   pub json : Bool
   pub limit : ℕ
 
--- the command as clap is told of it: one word that has to be there, `--json`, and one option of `transcode`
+-- the command as clap is told of it: one word that has to be there, and its options
 unfoldable pub show : App
-show = with_options (option.LimitBytes ∷ []) (with_flag (codes "json") (with_place (codes "in") (new_app (codes "show"))))
+show = with_options show_names (with_place (codes "in") (new_app (codes "show")))
 
 abbrev pub names_show : List Text → Bool
 names_show words = bytes_eq (slice_index_or words 1 []) (codes "show")
@@ -24,11 +25,11 @@ names_show words = bytes_eq (slice_index_or words 1 []) (codes "show")
 abbrev pub is_taken : List Text → Bool
 is_taken words = eqb (length (fault_of show words)) 0
 
--- by the text that clap finds under each name; of a flag that is among the words it is `true`
+-- by the text that clap finds under each name
 unfoldable pub show_by : (Text → Option Text) → Show
 show_by found = record {
   name = under found (codes "in");
-  json = bytes_eq (under found (codes "json")) (codes "true");
+  json = flag_of found option.Json;
   limit = unwrap_or (limit_in found) 268435456;
 }
 

@@ -4,7 +4,7 @@ use Rattle.std.specs.Str.{bytes_eq}
 use Rattle.clap.specs.Words.{fault_of, first_of, matches_of}
 use Rattle.jx_base.specs.OrderNumbers.{IsOrderNumber}
 use Rattle.jx_options.specs.Wanted.{MayBeStyle, Wanted}
-use Rattle.jx_options.specs.Work.{MayBeLimit, MayBeWork, Work}
+use Rattle.jx_options.specs.Work.{MayBeLimit, MayBeWork, Work, default_work}
 use Rattle.jx_options.specs.declared.FormChoice.{FormChoice}
 use Rattle.jx_options.specs.declared.FormChoice.TheVariants as form
 use Rattle.jx_options.specs.declared.PartChoice.TheVariants as parts
@@ -12,7 +12,8 @@ use Rattle.jx_options.specs.declared.RsizChoice.TheVariants as rsiz
 use Rattle.jx_cli.specs.Command.{transcode}
 use Rattle.jx_options.specs.declared.names.OptionName.{OptionName}
 use Rattle.jx_options.specs.declared.names.OptionName.TheVariants as option
-use Rattle.jx_options.specs.Names.{bytes_said, form_said, name_of, order_said, parts_said, reduce_said, rsiz_said, threads_said, window_said}
+use Rattle.jx_options.specs.Names.{form_said, name_of, number_said, parts_said, reduce_said, rsiz_said}
+use Rattle.jx_options.specs.Orders.{order_said}
 use Rattle.jx_options.specs.Values.{ArePrecincts, precincts_said, style_said}
 
 -- the bytes of a word
@@ -65,7 +66,7 @@ flag_of found name = bytes_eq (said_of found name) (codes "true")
 
 -- the most bytes that an input may have, where its text says a number
 abbrev pub limit_in : (Text → Option Text) → Option ℕ
-limit_in found = bytes_said (said_of found option.LimitBytes)
+limit_in found = number_said option.LimitBytes (said_of found option.LimitBytes)
 
 -- clap refuses words without `in` and `out`
 unfoldable pub given_by : (Text → Option Text) → Given
@@ -99,11 +100,12 @@ given_in words = given_by (found_in words)
 
 -- the values that say how the work is done
 abbrev pub is_work : Given → Bool
-is_work g = is_some (threads_said g.threads) && (is_some (window_said g.window) && is_some (bytes_said g.window_bytes))
+is_work g =
+    is_some (number_said option.Threads g.threads) && (is_some (number_said option.Window g.window) && is_some (number_said option.WindowBytes g.window_bytes))
 
 -- each value is one of its option's
 unfoldable pub are_values : Given → Bool
-are_values g = is_some (order_said g.order) && (is_some (precincts_said g.precincts) && (is_some (parts_said g.parts) && (is_some (style_said g.style) && (is_some (rsiz_said g.rsiz) && (is_some (form_said g.form) && (is_some (reduce_said g.reduce) && (is_some (bytes_said g.limit_bytes) && is_work g)))))))
+are_values g = is_some (order_said g.order) && (is_some (precincts_said g.precincts) && (is_some (parts_said g.parts) && (is_some (style_said g.style) && (is_some (rsiz_said g.rsiz) && (is_some (form_said g.form) && (is_some (reduce_said g.reduce) && (is_some (number_said option.LimitBytes g.limit_bytes) && is_work g)))))))
 
 unfoldable pub wanted_by : Given → Wanted
 wanted_by g = record {
@@ -117,13 +119,13 @@ wanted_by g = record {
 
 unfoldable pub work_by : Given → Work
 work_by g = record {
-  threads = unwrap_or (threads_said g.threads) 1;
-  window = unwrap_or (window_said g.window) 64;
-  most = unwrap_or (bytes_said g.window_bytes) 268435456;
+  threads = unwrap_or (number_said option.Threads g.threads) default_work.threads;
+  window = unwrap_or (number_said option.Window g.window) default_work.window;
+  most = unwrap_or (number_said option.WindowBytes g.window_bytes) default_work.most;
 }
 
 abbrev pub request_by : Given → Request
-request_by g = record { from = g.from; to = g.to; wanted = wanted_by g; form = unwrap_or (form_said g.form) form.Keep; reduce = unwrap_or (reduce_said g.reduce) 0; limit = unwrap_or (bytes_said g.limit_bytes) 268435456; work = work_by g }
+request_by g = record { from = g.from; to = g.to; wanted = wanted_by g; form = unwrap_or (form_said g.form) form.Keep; reduce = unwrap_or (reduce_said g.reduce) 0; limit = unwrap_or (number_said option.LimitBytes g.limit_bytes) 268435456; work = work_by g }
 
 abbrev pub names_command : List Text → Bool
 names_command words = bytes_eq (slice_index_or words 1 []) (codes "transcode")

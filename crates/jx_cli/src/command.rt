@@ -98,7 +98,7 @@ pub(crate) fn transcode<'a>(alloc: Global) -> Result<Command<'a>, AllocError>
 {
     let command = Command::new(alloc, "transcode");
     let command = with_places(alloc, command)?;
-    with_options(alloc, command, OptionName::all())
+    with_options(alloc, command, OptionName::of_transcode())
 }
 
 /// The command `make`, of three words.
@@ -109,34 +109,29 @@ pub(crate) fn make<'a>(alloc: Global) -> Result<Command<'a>, AllocError>
     with_words(alloc, command, &["seed", "width", "height"])
 }
 
-/// The command `boxes`, of one word and an option.
+/// The command `boxes`, of one word and its options.
 pub(crate) fn boxes<'a>(alloc: Global) -> Result<Command<'a>, AllocError>
     ensures { IfOk result (λ c. app_of c ≡ boxes) }
 {
     let command = Command::new(alloc, "boxes");
     let command = with_words(alloc, command, &["in"])?;
-    with_options(alloc, command, &[OptionName::LimitBytes])
+    with_options(alloc, command, OptionName::of_boxes())
 }
 
-/// The command `same`, of two words and two options.
+/// The command `same`, of two words and its options.
 pub(crate) fn same<'a>(alloc: Global) -> Result<Command<'a>, AllocError>
     ensures { IfOk result (λ c. app_of c ≡ same) }
 {
     let command = Command::new(alloc, "same");
     let command = with_words(alloc, command, &["a", "b"])?;
-    with_options(
-        alloc,
-        command,
-        &[OptionName::Threads, OptionName::LimitBytes],
-    )
+    with_options(alloc, command, OptionName::of_same())
 }
 
-/// The command `show`, of one word, whether JSON is said, and an option.
+/// The command `show`, of one word and its options.
 pub(crate) fn show<'a>(alloc: Global) -> Result<Command<'a>, AllocError>
     ensures { IfOk result (λ c. app_of c ≡ show) }
 {
     let command = Command::new(alloc, "show");
     let command = with_words(alloc, command, &["in"])?;
-    let command = command.arg(arg_of(alloc, true, "json", ""))?;
-    with_options(alloc, command, &[OptionName::LimitBytes])
+    with_options(alloc, command, OptionName::of_show())
 }

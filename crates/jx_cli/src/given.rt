@@ -9,7 +9,7 @@ ghost use Rattle.jx_cli.specs.Words.{flag_of, limit_in, said_of, text_of};
 use crate::WordsFault;
 use clap::error::ErrorKind;
 use clap::{ArgMatches, Command};
-use jx_options::{OptionName, bytes_said};
+use jx_options::OptionName;
 
 /// The text that was found under a name, else a default.
 pub(crate) fn text_of<'a>(matches: &ArgMatches<'a>, name: &str, default: &'a str) -> &'a str
@@ -39,7 +39,7 @@ pub(crate) fn flag_of(matches: &ArgMatches<'_>, option: OptionName) -> bool
 pub(crate) fn limit_in(matches: &ArgMatches<'_>) -> Option<u32>
     ensures { result ≡ limit_in (first_value (found_of matches.now)) }
 {
-    bytes_said(said_of(matches, OptionName::LimitBytes))
+    OptionName::LimitBytes.number(said_of(matches, OptionName::LimitBytes))
 }
 
 /// What clap finds in words for a command, of which the first is its name.

@@ -1,4 +1,4 @@
-//! The words of the command lines `jx transcode`, `jx make`, `jx boxes`, `jx same` and `jx show`, read with clap.
+//! The words of the command lines `jx transcode`, `jx make`, `jx boxes`, `jx same` and `jx show`, read with clap, and what help says of them.
 #![tactic(auto)]
 
 ghost use Rattle.std.specs.Prelude.{◌≡◌};
@@ -11,6 +11,8 @@ mod make;
 mod reading;
 mod same;
 mod show;
+mod texts;
+mod tree;
 
 pub use boxes::{Boxes, read_boxes};
 use jx_base::NoMemory;
@@ -20,6 +22,7 @@ pub use reading::read_words;
 pub use same::{Pair, read_same};
 pub use show::{Show, read_show};
 use std::marker::Model;
+pub use tree::command_tree;
 
 /// What good words ask for.
 #[derive(Drop)]

@@ -15,8 +15,7 @@ use clap::ArgMatches;
 use jx_base::{NoMemory, Style};
 use jx_options::{
     FormChoice, Marks, OptionName, Options, OrderChoice, PartChoice, PrecinctChoice, RsizChoice,
-    Work, bytes_said, form_said, order_said, parts_said, precincts_said, reduce_said, rsiz_said,
-    style_said, threads_said, window_said,
+    Work, form_said, order_said, parts_said, precincts_said, reduce_said, rsiz_said, style_said,
 };
 use std::alloc::Global;
 use std::marker::Model;
@@ -120,9 +119,9 @@ fn work_by(given: &Given<'_>) -> Option<Work>
     ensures some { IfSome result (λ w. (is_work given.now ≡ true) × (w ≡ work_by given.now)) }
     ensures none { result ≡ None → is_work given.now ≡ false }
 {
-    let threads = threads_said(given.threads)?;
-    let window = window_said(given.window)?;
-    let most = bytes_said(given.window_bytes)?;
+    let threads = OptionName::Threads.number(given.threads)?;
+    let window = OptionName::Window.number(given.window)?;
+    let most = OptionName::WindowBytes.number(given.window_bytes)?;
     Some(Work {
         threads,
         window,
@@ -210,7 +209,7 @@ fn request_by(alloc: Global, given: &Given<'_>) -> Result<Request, WordsFault>
     let Some(reduce) = reduce_said(given.reduce) else {
         return Err(WordsFault::Words);
     };
-    let Some(limit) = bytes_said(given.limit_bytes) else {
+    let Some(limit) = OptionName::LimitBytes.number(given.limit_bytes) else {
         return Err(WordsFault::Words);
     };
     let Some(work) = work_by(given) else {

@@ -9,7 +9,7 @@ use crate::WordsFault;
 use crate::command::same;
 use crate::given::{limit_in, matches_in, said_of, text_of};
 use clap::ArgMatches;
-use jx_options::{OptionName, threads_said};
+use jx_options::OptionName;
 use std::alloc::Global;
 use std::marker::Model;
 
@@ -97,7 +97,8 @@ fn pair_by(alloc: Global, matches: &ArgMatches<'_>) -> Result<Pair, WordsFault>
     ensures value { IfOk result (λ pair. pair ≡ pair_by (first_value (found_of matches.now))) }
     ensures words { result ≡ Err WordsFault.Words → are_numbers (first_value (found_of matches.now)) ≡ false }
 {
-    let Some(threads) = threads_said(said_of(matches, OptionName::Threads)) else {
+    let threads = said_of(matches, OptionName::CompareThreads);
+    let Some(threads) = OptionName::CompareThreads.number(threads) else {
         return Err(WordsFault::Words);
     };
     let Some(limit) = limit_in(matches) else {

@@ -9,8 +9,9 @@ ghost use Rattle.jx_options.specs.Work.{MayBeLimit};
 
 use crate::WordsFault;
 use crate::command::show;
-use crate::given::{limit_in, matches_in, text_of};
+use crate::given::{flag_of, limit_in, matches_in, text_of};
 use clap::ArgMatches;
+use jx_options::OptionName;
 use std::alloc::Global;
 use std::marker::Model;
 
@@ -67,7 +68,7 @@ fn show_by(alloc: Global, matches: &ArgMatches<'_>) -> Result<Show, WordsFault>
     let Some(limit) = limit_in(matches) else {
         return Err(WordsFault::Words);
     };
-    let json = text_of(matches, "json", "") == "true";
+    let json = flag_of(matches, OptionName::Json);
     match String::from_str(alloc, text_of(matches, "in", "")) {
         Ok(name) => Ok(Show { name, json, limit }),
         Err(_) => Err(WordsFault::NoMemory),

@@ -17,9 +17,9 @@ is_flag_named name option = is_flag option && bytes_eq (name_of option) name
 abbrev pub names_flag : Text → Bool
 names_flag name = list_any (is_flag_named name) all_names
 
--- an option without a value: one of `transcode`, or that of `show`
+-- an option without a value
 abbrev pub stands_alone : Text → Bool
-stands_alone word = is_option word && (names_flag (drop 2 word) || bytes_eq word (codes "--json"))
+stands_alone word = is_option word && names_flag (drop 2 word)
 
 -- an option has a value of its own, behind `=`
 abbrev pub has_value : Text → Bool

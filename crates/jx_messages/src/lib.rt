@@ -10,7 +10,6 @@ mod forms;
 mod help;
 mod limits;
 mod notes;
-mod options;
 mod profile;
 mod rules;
 mod sentence;

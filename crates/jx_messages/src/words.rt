@@ -34,10 +34,7 @@ fn stands_alone(word: &str) -> bool
     ensures { result ≡ stands_alone word.now }
 {
     let bytes = word.as_bytes();
-    bytes.len() >= 2
-        && bytes[0] == b'-'
-        && bytes[1] == b'-'
-        && (names_flag(&bytes[2..]) || word == "--json")
+    bytes.len() >= 2 && bytes[0] == b'-' && bytes[1] == b'-' && names_flag(&bytes[2..])
 }
 
 /// Whether an option has a value of its own, behind `=`.

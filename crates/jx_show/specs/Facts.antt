@@ -30,7 +30,6 @@ use Rattle.jx_show.specs.declared.fact.Value.TheVariants as value
 use Rattle.jx_show.specs.declared.fact.Word.{Word}
 use Rattle.jx_show.specs.declared.fact.Word.TheVariants as word
 use Rattle.jx_show.specs.Orders.{own_entries}
-use Rattle.jx_show.specs.Text.{order_word}
 
 abbrev pub fact : Name → About → Value → Fact
 fact n a v = record { name = n; about = a; value = v }
@@ -129,7 +128,7 @@ shape_facts a shape =
 
 abbrev pub cod_facts : About → Cod → List Fact
 cod_facts a cod =
-    fact name.Order a (value.Word (order_word cod.order))
+    fact name.Order a (value.Word (word.Order cod.order))
     ∷ fact name.Layers a (value.Count cod.layers)
     ∷ fact name.Transform a (value.Holds (cod.transform == 1))
     ∷ fact name.Sop a (value.Holds cod.sop)

@@ -8,7 +8,7 @@ use Rattle.jx_marker.specs.declared.Progression.{Progression}
 use Rattle.jx_show.specs.declared.fact.Fact.{Fact}
 use Rattle.jx_show.specs.declared.fact.Value.{Value}
 use Rattle.jx_show.specs.declared.fact.Value.TheVariants as value
-use Rattle.jx_show.specs.Text.{about_text, is_predictable, name_text, order_word, word_text}
+use Rattle.jx_show.specs.Text.{about_text, is_predictable, name_text, order_called, word_text}
 
 unfoldable pub pair_json : ℕ → ℕ → List ℕ
 pair_json a b = codes "[" ++ (decimal a ++ (codes ", " ++ (decimal b ++ codes "]")))
@@ -41,7 +41,7 @@ abbrev pub order_json : List ℕ → Progression → List ℕ
 order_json order e = codes "{\"order\": " ++ (word_json order ++ (layers_json e.lye ++ pair_json e.rs e.re))
 
 abbrev pub entry_json : Progression → List ℕ
-entry_json e = order_json (word_text (order_word e.order)) e ++ (codes ", \"components\": " ++ (comps_json e.cs e.ce ++ codes "}"))
+entry_json e = order_json (order_called e.order) e ++ (codes ", \"components\": " ++ (comps_json e.cs e.ce ++ codes "}"))
 
 unfoldable pub value_json : Value → List ℕ
 value_json (value.Count n) = decimal n

@@ -1,9 +1,10 @@
 -- The text of facts: a line for each, of its name, of what it is told, a colon and its value.
-use Rattle.std.specs.Prelude.{ℕ, ◌/◌, ◌%◌, ◌==◌, Bool, List, [], ◌++◌, Option, None, Some, codes, if◌then◌else◌}
+use Rattle.std.specs.Prelude.{ℕ, ◌/◌, ◌%◌, ◌==◌, Bool, List, [], ◌++◌, Option, None, Some, codes, if◌then◌else◌, unwrap_or}
 use Rattle.std.specs.List.{flat_map}
 use Rattle.std.specs.Fmt.{decimal}
 use Rattle.jx_base.specs.Passes.{bypasses, resets, terminates, is_causal, has_symbols}
 use Rattle.jx_marker.specs.declared.Progression.{Progression}
+use Rattle.jx_options.specs.Orders.{order_name}
 use Rattle.jx_show.specs.declared.fact.About.{About}
 use Rattle.jx_show.specs.declared.fact.Fact.{Fact}
 use Rattle.jx_show.specs.declared.fact.Name.{Name}
@@ -47,27 +48,19 @@ name_text name.Plm = codes "PLM"
 name_text name.Tlm = codes "TLM"
 name_text name.Comments = codes "comments"
 
+-- what the progression order of a number is called (Table A.16)
+abbrev pub order_called : ℕ → List ℕ
+order_called number = unwrap_or (order_name number) (codes "reserved")
+
 unfoldable pub word_text : Word → List ℕ
 word_text word.Unsigned = codes "unsigned"
 word_text word.Signed = codes "signed"
-word_text word.Lrcp = codes "LRCP"
-word_text word.Rlcp = codes "RLCP"
-word_text word.Rpcl = codes "RPCL"
-word_text word.Pcrl = codes "PCRL"
-word_text word.Cprl = codes "CPRL"
+word_text (word.Order number) = order_called number
 word_text word.Irreversible = codes "9-7 irreversible"
 word_text word.Reversible = codes "5-3 reversible"
 word_text word.Nothing = codes "none"
 word_text word.Derived = codes "scalar derived"
 word_text word.Expounded = codes "scalar expounded"
-
--- the progression order of a number (Table A.16)
-abbrev pub order_word : ℕ → Word
-order_word order =
-    if order == 0 then word.Lrcp else
-    if order == 1 then word.Rlcp else
-    if order == 2 then word.Rpcl else
-    if order == 3 then word.Pcrl else word.Cprl
 
 -- of what a fact is told: words and a number for each part that is named
 abbrev pub part_text : List ℕ → Option ℕ → List ℕ
@@ -102,7 +95,7 @@ order_text order e =
     codes " " ++ (order ++ (codes ", layers below " ++ (decimal e.lye ++ (codes ", resolutions from " ++ (decimal e.rs ++ (codes " below " ++ decimal e.re))))))
 
 abbrev pub entry_text : Progression → List ℕ
-entry_text e = order_text (word_text (order_word e.order)) e ++ comps_text e.cs e.ce
+entry_text e = order_text (order_called e.order) e ++ comps_text e.cs e.ce
 
 unfoldable pub value_text : Value → List ℕ
 value_text (value.Count n) = codes " " ++ decimal n

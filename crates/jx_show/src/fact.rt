@@ -79,16 +79,8 @@ pub enum Word {
     Unsigned,
     /// Samples with a sign.
     Signed,
-    /// Layer, resolution, component, position.
-    Lrcp,
-    /// Resolution, layer, component, position.
-    Rlcp,
-    /// Resolution, position, component, layer.
-    Rpcl,
-    /// Position, component, resolution, layer.
-    Pcrl,
-    /// Component, position, resolution, layer.
-    Cprl,
+    /// The progression order of a number (T.800, A.6.1, Table A.16).
+    Order(u8),
     /// The 9-7 wavelet.
     Irreversible,
     /// The 5-3 wavelet.

@@ -4,7 +4,7 @@ ghost use Rattle.std.specs.Prelude.{◌≡◌, ◌++◌, OnOk, string_bytes};
 ghost use Rattle.jx_show.specs.Json.{comps_json, entry_json, fact_json, flag_json, holds_json, json_of, layers_json, order_json, pair_json, style_json, value_json, word_json};
 
 use crate::lines::push_about;
-use crate::words::{name_text, order_word, word_text};
+use crate::words::{name_text, order_called, word_text};
 use crate::{Fact, Value};
 use jx_base::Style;
 use jx_marker::Progression;
@@ -83,7 +83,7 @@ fn push_order(text: &mut String, order: &str, entry: Progression) -> Result<(), 
 fn push_entry(text: &mut String, entry: Progression) -> Result<(), AllocError>
     ensures { OnOk result (string_bytes text.new ≡ string_bytes text.old ++ entry_json entry) }
 {
-    push_order(text, word_text(order_word(entry.order)), entry)?;
+    push_order(text, order_called(entry.order), entry)?;
     text.push_str(", \"components\": ")?;
     push_comps(text, entry.cs, entry.ce)?;
     text.push_str("}")

@@ -3,7 +3,7 @@
 ghost use Rattle.std.specs.Prelude.{◌≡◌, ◌++◌, OnOk, IfOk, string_bytes};
 ghost use Rattle.jx_show.specs.Text.{about_text, comps_text, entry_text, fact_text, order_text, part_text, style_text, text_of, told, value_text};
 
-use crate::words::{name_text, order_word, word_text};
+use crate::words::{name_text, order_called, word_text};
 use crate::{About, Fact, Value};
 use jx_base::{NoMemory, Style};
 use jx_marker::Progression;
@@ -84,7 +84,7 @@ fn push_order(text: &mut String, order: &str, entry: Progression) -> Result<(), 
 fn push_entry(text: &mut String, entry: Progression) -> Result<(), AllocError>
     ensures { OnOk result (string_bytes text.new ≡ string_bytes text.old ++ entry_text entry) }
 {
-    push_order(text, word_text(order_word(entry.order)), entry)?;
+    push_order(text, order_called(entry.order), entry)?;
     push_comps(text, entry.cs, entry.ce)?;
     Ok(())
 }

@@ -4,8 +4,8 @@ ghost use Rattle.std.specs.Prelude.{◌≡◌, ◌++◌, OnOk, length};
 ghost use Rattle.jx_show.specs.Facts.{cod_facts, entry_facts, precinct_facts, precincts_fact, quant_facts, resolution_facts, segment_facts, shape_facts, side_of, topic_of};
 
 use crate::picture::{fact, of_comp, of_tile};
-use crate::words::{order_word, quantization_word, wavelet_word};
-use crate::{About, Fact, Name, Value};
+use crate::words::{quantization_word, wavelet_word};
+use crate::{About, Fact, Name, Value, Word};
 use jx_base::{NoMemory, Style};
 use jx_marker::{Cod, Progression, Quant, Segment, Shape};
 
@@ -78,7 +78,7 @@ fn push_cod(facts: &mut Vec<Fact>, about: About, cod: &Cod) -> Result<(), NoMemo
     ensures { OnOk result (facts.new.items ≡ facts.old.items ++ cod_facts about cod.now) }
 {
     facts.extend_from_slice(&[
-        fact(Name::Order, about, Value::Word(order_word(cod.order))),
+        fact(Name::Order, about, Value::Word(Word::Order(cod.order))),
         fact(Name::Layers, about, Value::Count(u128::from(cod.layers))),
         fact(Name::Transform, about, Value::Holds(cod.transform == 1)),
         fact(Name::Sop, about, Value::Holds(cod.sop)),

@@ -2,9 +2,10 @@
 
 ghost use Rattle.std.specs.Prelude.{◌≡◌};
 ghost use Rattle.jx_show.specs.Facts.{quantization_word, sign_word, wavelet_word};
-ghost use Rattle.jx_show.specs.Text.{name_text, order_word, word_text};
+ghost use Rattle.jx_show.specs.Text.{name_text, order_called, word_text};
 
 use crate::{Name, Word};
+use jx_options::order_name;
 
 /// What a fact is called.
 #[tactic(auto, unfolding(crate::specs::Text::name_text))]
@@ -47,6 +48,16 @@ pub(crate) fn name_text(name: Name) -> &'static str
     }
 }
 
+/// What the progression order of a number is called (T.800, Table A.16).
+pub(crate) fn order_called(number: u8) -> &'static str
+    ensures { result.now ≡ order_called number }
+{
+    match order_name(number) {
+        Some(name) => name,
+        None => "reserved",
+    }
+}
+
 /// A word.
 #[tactic(auto, unfolding(crate::specs::Text::word_text))]
 pub(crate) fn word_text(word: Word) -> &'static str
@@ -55,29 +66,12 @@ pub(crate) fn word_text(word: Word) -> &'static str
     match word {
         Word::Unsigned => "unsigned",
         Word::Signed => "signed",
-        Word::Lrcp => "LRCP",
-        Word::Rlcp => "RLCP",
-        Word::Rpcl => "RPCL",
-        Word::Pcrl => "PCRL",
-        Word::Cprl => "CPRL",
+        Word::Order(number) => order_called(number),
         Word::Irreversible => "9-7 irreversible",
         Word::Reversible => "5-3 reversible",
         Word::Nothing => "none",
         Word::Derived => "scalar derived",
         Word::Expounded => "scalar expounded",
-    }
-}
-
-/// The progression order of a number (T.800, Table A.16).
-pub(crate) fn order_word(order: u8) -> Word
-    ensures { result ≡ order_word order }
-{
-    match order {
-        0 => Word::Lrcp,
-        1 => Word::Rlcp,
-        2 => Word::Rpcl,
-        3 => Word::Pcrl,
-        _ => Word::Cprl,
     }
 }
 

@@ -1,5 +1,6 @@
 -- What the headers and the geometry of a tile say of it.
 use Rattle.std.proofs.Common.{◌≡◌, ◌<◌, ◌≤◌, ◌^◌, ℕ, ap, refl, subst, sym, None, All}
+use Rattle.jx_base.specs.OrderNumbers.{IsOrderNumber}
 use Rattle.jx_geom.specs.Geometry.{Geometry}
 use Rattle.jx_marker.specs.declared.Progression.{Progression}
 use Rattle.jx_codestream.specs.declared.Stream.{Stream}
@@ -20,10 +21,10 @@ of_tile s t h g range totals inside view is =
 
 -- the entries of a tile have orders, and its packets are few
 pub orders_of : (f : TileOf) (s : Stream) (h : TileHeaders) (g : Geometry) → s ≡ f.stream → g ≡ geometry f.stream f.number → AreOfTile s h g
-    → All (λ (e : Progression). e.order ≤ 4) (tile_at f.stream f.number).progressions
+    → All (λ (e : Progression). IsOrderNumber e.order) (tile_at f.stream f.number).progressions
 orders_of f s h g stream is are =
-    let P : ℕ → Type 0 = λ t. All (λ (e : Progression). e.order ≤ 4) (tile_at f.stream t).progressions in
-    let Q : Stream → Type 0 = λ x. All (λ (e : Progression). e.order ≤ 4) (tile_at x g.tile).progressions in
+    let P : ℕ → Type 0 = λ t. All (λ (e : Progression). IsOrderNumber e.order) (tile_at f.stream t).progressions in
+    let Q : Stream → Type 0 = λ x. All (λ (e : Progression). IsOrderNumber e.order) (tile_at x g.tile).progressions in
     subst P (ap (λ (x : Geometry). x.tile) is) (subst Q stream (are.range.orders g.tile are.tile))
 
 pub packets_of : (f : TileOf) (s : Stream) (h : TileHeaders) (g : Geometry) → s ≡ f.stream → g ≡ geometry f.stream f.number → AreOfTile s h g → tile_packets f.stream f.number ≤ 2 ^ 22

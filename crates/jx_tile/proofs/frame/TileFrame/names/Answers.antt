@@ -1,4 +1,5 @@
-use Rattle.std.proofs.Common.{◌∙◌, ◌≤◌, ap, sym, subst, List, Err, All}
+use Rattle.std.proofs.Common.{◌∙◌, ap, sym, subst, List, Err, All}
+use Rattle.jx_base.specs.OrderNumbers.{IsOrderNumber}
 use Rattle.jx_marker.specs.declared.Progression.{Progression}
 use Rattle.jx_progression.specs.Packets.{IsPacketName}
 use Rattle.jx_codestream.specs.declared.Tile.{Tile}
@@ -10,7 +11,7 @@ use Rattle.jx_tile.proofs.frame.TileFrame.names.Goals as goal
 
 pub packets-requires : goal.packets-requires
 packets-requires c =
-    let P : List Progression → Type 0 = λ x. All (λ (e : Progression). e.order ≤ 4) x in
+    let P : List Progression → Type 0 = λ x. All (λ (e : Progression). IsOrderNumber e.order) x in
     subst P (sym (c.as_slice.ensures ∙ ap (λ (x : Tile). x.progressions) c.tile-tile.ensures))
     (orders_of c.args.self.now c.parts.result.0.now c.parts.result.1.now c.parts.result.2.now c.parts.ensures.stream c.parts.ensures.geometry c.parts.ensures.tile)
 
