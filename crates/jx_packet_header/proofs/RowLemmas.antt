@@ -3,15 +3,17 @@ use Rattle.std.proofs.Common.{◌≡◌, ◌≢◌, ℕ, zero, suc, ◌+◌, ◌
 use Rattle.std.proofs.lemmas.Bool.{cases_lt}
 use Rattle.std.proofs.lemmas.Nat.{div_below, mod_below, mul-le, mul-add-lt, div-mul-add, mod-mul-add, div-add-mod', le-div, pow_pos}
 use Rattle.std.proofs.Math.Nat.{div-mul-le_self}
-use Rattle.jx_tagtree.specs.Past.{AreUnder}
+use Rattle.jx_tagtree.specs.TagTree.{Tree}
+use Rattle.jx_tagtree.specs.Past.{IsPast, AreUnder}
 use Rattle.jx_packet_header.specs.declared.HeaderPart.{HeaderPart}
 use Rattle.jx_packet_header.specs.declared.HeadFault.{HeadFault}
 use Rattle.jx_packet_header.specs.declared.HeadFault.TheVariants.{Bits, Planes, NoMemory}
 use Rattle.jx_packet_header.specs.Said.{Refuses, BandSaid}
 use Rattle.jx_packet_header.specs.Packet.{Cells}
-use Rattle.jx_packet_header.specs.Kept.{IsBand, IsSilent, AreSilent, KeepsSize}
+use Rattle.jx_packet_header.specs.Kept.{IsLeafOf, IsBand, IsSilent, AreSilent, KeepsSize}
 use Rattle.jx_packet_header.specs.Scan.{Told, AllTold, and_parts, scan_block, scan_blocks}
-use Rattle.jx_packet_header.proofs.BandLemmas.{all_is, block_band, block_wide, block_silent, blocks_step, blocks_said, silent_blocks, first_blocks, first_fault, whole_fault, parts_parts}
+use Rattle.jx_packet_header.proofs.AskLemmas.{past_unsettled}
+use Rattle.jx_packet_header.proofs.BandLemmas.{all_is, block_of, blocks_refuse, block_band, block_wide, block_silent, blocks_step, blocks_said, silent_blocks, first_blocks, first_fault, whole_fault, parts_parts}
 
 -- ---- rows and columns
 -- the end of the places under a node
@@ -48,24 +50,26 @@ later_row wide down across y x lt later = λ (e : y * wide + x ≡ down * wide +
     omega arith)
 
 -- ---- a row
-pub record IsRow (style layer base down : ℕ) (begun : List HeaderPart) (start : Cells) (from : List Bool) (across next : ℕ) (cells : Cells) (parts : List HeaderPart) (bits : List Bool) : Type 0 where
-  pub within : across ≤ start.first.wide
-  pub read : and_parts begun (scan_blocks style layer base start.first.wide (down * start.first.wide) start from)
-      ≡ and_parts parts (scan_blocks style layer base (start.first.wide - across) (down * start.first.wide + across) cells bits)
+pub record IsRow (style layer base down wide : ℕ) (begun : List HeaderPart) (start : Cells) (from : List Bool) (across next : ℕ) (cells : Cells) (parts : List HeaderPart) (bits : List Bool) : Type 0 where
+  pub wide_is : wide ≡ start.first.wide
+  pub within : across ≤ wide
+  pub read : and_parts begun (scan_blocks style layer base wide (down * wide) start from)
+      ≡ and_parts parts (scan_blocks style layer base (wide - across) (down * wide + across) cells bits)
   pub band : IsBand cells
   pub size : KeepsSize cells start
   pub later : down < next
-  pub silent : (y x : ℕ) → down < y → y < next → x < across → y * start.first.wide + x < length cells.blocks → IsSilent layer cells (y * start.first.wide + x)
+  pub silent : (y x : ℕ) → down < y → y < next → x < across → y * wide + x < length cells.blocks → IsSilent layer cells (y * wide + x)
 
-pub row_begin : (style layer base down next : ℕ) (begun : List HeaderPart) (start : Cells) (from : List Bool) → IsBand start → down < next →
-    IsRow style layer base down begun start from 0 next start begun from
-row_begin style layer base down next begun start from b lt =
-    let l : down * start.first.wide ≡ down * start.first.wide + 0 = omega arith in
-    let m : start.first.wide ≡ start.first.wide - 0 = omega arith in
+pub row_begin : (style layer base down wide next : ℕ) (begun : List HeaderPart) (start : Cells) (from : List Bool) → wide ≡ start.first.wide → IsBand start → down < next →
+    IsRow style layer base down wide begun start from 0 next start begun from
+row_begin style layer base down wide next begun start from is b lt =
+    let l : down * wide ≡ down * wide + 0 = omega arith in
+    let m : wide ≡ wide - 0 = omega arith in
     record {
+      wide_is = is;
       within = omega arith;
-      read = ap (λ (k : ℕ). and_parts begun (scan_blocks style layer base start.first.wide k start from)) l
-          ∙ ap (λ (k : ℕ). and_parts begun (scan_blocks style layer base k (down * start.first.wide + 0) start from)) m;
+      read = ap (λ (k : ℕ). and_parts begun (scan_blocks style layer base wide k start from)) l
+          ∙ ap (λ (k : ℕ). and_parts begun (scan_blocks style layer base k (down * wide + 0) start from)) m;
       band = b;
       size = record { wide = refl; high = refl; long = refl };
       later = lt;
@@ -73,27 +77,24 @@ row_begin style layer base down next begun start from b lt =
     }
 
 -- a block of the row is one of the band
-pub row_inside : (start cells : Cells) (down across : ℕ) → IsBand cells → KeepsSize cells start → down < start.first.high → across < start.first.wide → down * start.first.wide + across < length cells.blocks
-row_inside start cells down across b size down_lt across_lt =
+pub row_inside : (start cells : Cells) (down across wide : ℕ) → wide ≡ start.first.wide → IsBand cells → KeepsSize cells start → down < start.first.high → across < wide → down * wide + across < length cells.blocks
+row_inside start cells down across wide is b size down_lt across_lt =
     let long : length cells.blocks ≡ cells.first.wide * cells.first.high = b.trees.long in
-    let same : cells.first.wide * cells.first.high ≡ start.first.wide * start.first.high =
-    ap (λ (w : ℕ). w * cells.first.high) size.wide ∙ ap (λ (h : ℕ). start.first.wide * h) size.high in
-    let lt : down * start.first.wide + across < start.first.wide * start.first.high = mul-add-lt down start.first.wide across start.first.high down_lt across_lt in
+    let same : cells.first.wide * cells.first.high ≡ wide * start.first.high =
+    ap (λ (w : ℕ). w * cells.first.high) (size.wide ∙ sym is) ∙ ap (λ (h : ℕ). wide * h) size.high in
+    let lt : down * wide + across < wide * start.first.high = mul-add-lt down wide across start.first.high down_lt across_lt in
     omega arith
 
-module _ (style layer base down : ℕ) (begun : List HeaderPart) (start : Cells) (from : List Bool) (across next : ℕ) (cells : Cells) (parts : List HeaderPart) (bits : List Bool)
-    (row : IsRow style layer base down begun start from across next cells parts bits) (down_lt : down < start.first.high) (across_lt : across < start.first.wide)
-    (t : Told) (was : scan_block style layer (base + (down * start.first.wide + across)) (down * start.first.wide + across) cells bits ≡ Ok t) (small : length bits ≤ 2 ^ 67)
-    (place : ℕ) (facts : (other : ℕ) → other < length t.cells.blocks → other ≢ down * start.first.wide + across →
-        AreUnder t.cells.first.wide place (down * start.first.wide + across) other → IsSilent layer t.cells other) where
-  abbrev wide : ℕ
-  wide = start.first.wide
-
+module _ (style layer base down wide : ℕ) (begun : List HeaderPart) (start : Cells) (from : List Bool) (across next : ℕ) (cells : Cells) (parts : List HeaderPart) (bits : List Bool)
+    (row : IsRow style layer base down wide begun start from across next cells parts bits) (down_lt : down < start.first.high) (across_lt : across < wide)
+    (t : Told) (was : scan_block style layer (base + (down * wide + across)) (down * wide + across) cells bits ≡ Ok t) (small : length bits ≤ 2 ^ 67)
+    (place : ℕ) (facts : (other : ℕ) → other < length t.cells.blocks → other ≢ down * wide + across →
+        AreUnder t.cells.first.wide place (down * wide + across) other → IsSilent layer t.cells other) where
   abbrev leaf : ℕ
   leaf = down * wide + across
 
   inside : leaf < length cells.blocks
-  inside = row_inside start cells down across row.band row.size down_lt across_lt
+  inside = row_inside start cells down across wide row.wide_is row.band row.size down_lt across_lt
 
   kept : IsBand t.cells × (length t.cells.blocks ≡ length cells.blocks)
   kept = block_band style layer (base + leaf) leaf cells bits t row.band inside small was
@@ -107,7 +108,7 @@ module _ (style layer base down : ℕ) (begun : List HeaderPart) (start : Cells)
   -- the blocks under the node
   under_it : (y x : ℕ) → x < wide → y * wide + x ≢ leaf → y / 2 ^ place ≡ down / 2 ^ place → x / 2 ^ place ≡ across / 2 ^ place → y * wide + x < length t.cells.blocks → IsSilent layer t.cells (y * wide + x)
   under_it y x x_lt ne rows columns lt =
-      facts (y * wide + x) lt ne (subst (λ (w : ℕ). AreUnder w place leaf (y * wide + x)) (sym new_size.wide) (under wide place down across y x across_lt x_lt rows columns))
+      facts (y * wide + x) lt ne (subst (λ (w : ℕ). AreUnder w place leaf (y * wide + x)) (row.wide_is ∙ sym new_size.wide) (under wide place down across y x across_lt x_lt rows columns))
 
   new_silent : (y x : ℕ) → down < y → y < min next (end down place) → x < min (end across place) wide → y * wide + x < length t.cells.blocks → IsSilent layer t.cells (y * wide + x)
   new_silent y x later before x_lt lt =
@@ -134,18 +135,19 @@ module _ (style layer base down : ℕ) (begun : List HeaderPart) (start : Cells)
       let ne : down * wide + x ≢ leaf = λ (e : down * wide + x ≡ leaf). (omega arith) in
       subst (λ (n : ℕ). IsSilent layer t.cells n) is
       (under_it down x (omega arith) ne refl (in_run across place x (omega arith) (omega arith))
-      (let l : down * wide + x < length cells.blocks = row_inside start cells down x row.band row.size down_lt (omega arith) in let e : length t.cells.blocks ≡ length cells.blocks = kept.1 in omega arith))
+      (let l : down * wide + x < length cells.blocks = row_inside start cells down x wide row.wide_is row.band row.size down_lt (omega arith) in let e : length t.cells.blocks ≡ length cells.blocks = kept.1 in omega arith))
 
-  pub row_step : (new : List HeaderPart) → new ≡ parts ++ t.entry.parts → IsRow style layer base down begun start from to (min next (end down place)) t.cells new t.rest
+  pub row_step : (new : List HeaderPart) → new ≡ parts ++ t.entry.parts → IsRow style layer base down wide begun start from to (min next (end down place)) t.cells new t.rest
   row_step new new_is =
       let first : across < to = behind in
-      let last : down * wide + (to - 1) < length cells.blocks = row_inside start cells down (to - 1) row.band row.size down_lt (omega arith) in
+      let last : down * wide + (to - 1) < length cells.blocks = row_inside start cells down (to - 1) wide row.wide_is row.band row.size down_lt (omega arith) in
       let long : length t.cells.blocks ≡ length cells.blocks = kept.1 in
       let m : wide - across - 1 - (to - across - 1) ≡ wide - to = omega arith in
       let l : leaf + 1 + (to - across - 1) ≡ down * wide + to = omega arith in
       let below : down < end down place = before_end down place in
       let later : down < next = row.later in
       record {
+        wide_is = row.wide_is;
         within = omega arith;
         read = blocks_step (scan_blocks style layer base wide (down * wide) start from) begun parts new style layer base (wide - across) leaf cells t.cells bits t.rest t.entry (omega arith) row.read was new_is
             ∙ ap (and_parts new) (silent_blocks style layer base (to - across - 1) (wide - across - 1) (leaf + 1) t.cells t.rest kept.0 (omega arith) (omega arith) run_silent)
@@ -157,13 +159,32 @@ module _ (style layer base down : ℕ) (begun : List HeaderPart) (start : Cells)
         silent = new_silent;
       }
 
-pub row_said : (style layer base down : ℕ) (begun : List HeaderPart) (start : Cells) (from : List Bool) (across next : ℕ) (cells : Cells) (parts : List HeaderPart) (bits : List Bool) →
-    IsRow style layer base down begun start from across next cells parts bits → start.first.wide ≤ across →
+pub row_said : (style layer base down wide : ℕ) (begun : List HeaderPart) (start : Cells) (from : List Bool) (across next : ℕ) (cells : Cells) (parts : List HeaderPart) (bits : List Bool) →
+    IsRow style layer base down wide begun start from across next cells parts bits → wide ≤ across →
     BandSaid (scan_blocks style layer base start.first.wide (down * start.first.wide) start from) begun parts cells bits × AreSilent layer cells (down + 1) next cells.first.wide
-row_said style layer base down begun start from across next cells parts bits row le = (
-  blocks_said (scan_blocks style layer base start.first.wide (down * start.first.wide) start from) begun parts style layer base (start.first.wide - across) (down * start.first.wide + across) cells bits (omega arith) row.read,
-  subst (λ (w : ℕ). AreSilent layer cells (down + 1) next w) (sym row.size.wide) (λ y x ge lt x_lt inside. row.silent y x (omega arith) lt (omega arith) inside),
+row_said style layer base down wide begun start from across next cells parts bits row le = (
+  subst (λ (w : ℕ). BandSaid (scan_blocks style layer base w (down * w) start from) begun parts cells bits) row.wide_is
+      (blocks_said (scan_blocks style layer base wide (down * wide) start from) begun parts style layer base (wide - across) (down * wide + across) cells bits (omega arith) row.read),
+  subst (λ (w : ℕ). AreSilent layer cells (down + 1) next w) (row.wide_is ∙ sym row.size.wide) (λ y x ge lt x_lt inside. row.silent y x (omega arith) lt (omega arith) inside),
 )
+
+-- a block of it is refused
+pub row_refuse : (style layer base down wide : ℕ) (begun : List HeaderPart) (start : Cells) (from : List Bool) (across next : ℕ) (cells : Cells) (parts : List HeaderPart) (bits : List Bool) (f : HeadFault) →
+    IsRow style layer base down wide begun start from across next cells parts bits → across < wide →
+    Refuses f (scan_block style layer (base + (down * wide + across)) (down * wide + across) cells bits) → Refuses f (scan_blocks style layer base start.first.wide (down * start.first.wide) start from)
+row_refuse style layer base down wide begun start from across next cells parts bits f row lt r =
+    subst (λ (w : ℕ). Refuses f (scan_blocks style layer base w (down * w) start from)) row.wide_is
+    (blocks_refuse (scan_blocks style layer base wide (down * wide) start from) begun parts style layer base (wide - across) (down * wide + across) cells bits f (omega arith) row.read r)
+
+-- what is known of the blocks under a node
+pub silent_under : (cells : Cells) (tree : Tree) (layer leaf place : ℕ) → tree ≡ cells.first → IsBand cells →
+    ((other : ℕ) → other < tree.wide * tree.high → AreUnder tree.wide place leaf other → IsPast tree other (layer + 1)) →
+    (other : ℕ) → other < length cells.blocks → other ≢ leaf → AreUnder cells.first.wide place leaf other → IsSilent layer cells other
+silent_under cells tree layer leaf place is b past other lt ne u =
+    let l : IsLeafOf cells.first other = (block_of cells other b.trees lt).in_first in
+    let here : IsPast cells.first other (layer + 1) = subst (λ (t : Tree). IsPast t other (layer + 1)) is
+    (past other (subst (λ (t : Tree). other < t.wide * t.high) (sym is) l.inside) (subst (λ (t : Tree). AreUnder t.wide place leaf other) (sym is) u)) in
+    record { none = b.settled other (past_unsettled cells.first other (layer + 1) l here); past = here }
 
 -- ---- row after row
 pub record IsRows (style layer base : ℕ) (begun : List HeaderPart) (start : Cells) (from : List Bool) (down : ℕ) (cells : Cells) (parts : List HeaderPart) (bits : List Bool) : Type 0 where
