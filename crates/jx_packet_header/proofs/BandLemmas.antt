@@ -770,7 +770,8 @@ first_blocks style layer base zero more leaf cells bits a few h =
     (ap (λ (k : ℕ). scan_blocks style layer base k leaf cells bits) m ∙ ap (λ (k : ℕ). scan_blocks style layer base (more - 0) k cells bits) l
     ∙ sym (no_parts (scan_blocks style layer base (more - 0) (leaf + 0) cells bits)))
 first_blocks style layer base (suc n) zero leaf cells bits a few h = absurd (omega arith)
-first_blocks style layer base (suc n) (suc more) leaf cells bits a few h = by (scan_block style layer (base + leaf) leaf cells bits) h
+first_blocks style layer base (suc n) (suc more) leaf cells bits a few h =
+    by (scan_block style layer (base + leaf) leaf cells bits) h (λ t x eq. first_blocks style layer base n more (leaf + 1) t.cells t.rest x (omega arith) eq)
   where
     m : more - n ≡ suc more - suc n
     m = omega arith
@@ -778,36 +779,44 @@ first_blocks style layer base (suc n) (suc more) leaf cells bits a few h = by (s
     l : leaf + 1 + n ≡ leaf + suc n
     l = omega arith
 
-    within : (t : Told) (r : Result AllTold HeadFault) → scan_blocks style layer base n (leaf + 1) t.cells t.rest ≡ r → and_parts t.entry.parts r ≡ Ok a →
+    within : (t : Told) (r : Result AllTold HeadFault) → and_parts t.entry.parts r ≡ Ok a →
+        ((x : AllTold) → r ≡ Ok x → scan_blocks style layer base more (leaf + 1) t.cells t.rest ≡ and_parts x.parts (scan_blocks style layer base (more - n) (leaf + 1 + n) x.cells x.rest)) →
         and_parts t.entry.parts (scan_blocks style layer base more (leaf + 1) t.cells t.rest) ≡ and_parts a.parts (scan_blocks style layer base (suc more - suc n) (leaf + suc n) a.cells a.rest)
-    within t (Err e) eq k = absurd cc
-    within t (Ok x) eq k =
+    within t (Err e) k again = absurd cc
+    within t (Ok x) k again =
         let is : after_told t.entry.parts x ≡ a = cc in
         subst (λ (y : AllTold). and_parts t.entry.parts (scan_blocks style layer base more (leaf + 1) t.cells t.rest) ≡ and_parts y.parts (scan_blocks style layer base (suc more - suc n) (leaf + suc n) y.cells y.rest)) is
-        (ap (and_parts t.entry.parts) (first_blocks style layer base n more (leaf + 1) t.cells t.rest x (omega arith) eq)
+        (ap (and_parts t.entry.parts) (again x refl)
         ∙ parts_parts t.entry.parts x.parts (scan_blocks style layer base (more - n) (leaf + 1 + n) x.cells x.rest)
         ∙ ap (λ (k : ℕ). and_parts (t.entry.parts ++ x.parts) (scan_blocks style layer base k (leaf + 1 + n) x.cells x.rest)) m
         ∙ ap (λ (k : ℕ). and_parts (t.entry.parts ++ x.parts) (scan_blocks style layer base (suc more - suc n) k x.cells x.rest)) l)
 
     by : (o : Result Told HeadFault) → and_then o (on_block style layer base n leaf) ≡ Ok a →
+        ((t : Told) (x : AllTold) → scan_blocks style layer base n (leaf + 1) t.cells t.rest ≡ Ok x →
+        scan_blocks style layer base more (leaf + 1) t.cells t.rest ≡ and_parts x.parts (scan_blocks style layer base (more - n) (leaf + 1 + n) x.cells x.rest)) →
         and_then o (on_block style layer base more leaf) ≡ and_parts a.parts (scan_blocks style layer base (suc more - suc n) (leaf + suc n) a.cells a.rest)
-    by (Err e) k = absurd cc
-    by (Ok t) k = within t (scan_blocks style layer base n (leaf + 1) t.cells t.rest) refl k
+    by (Err e) k again = absurd cc
+    by (Ok t) k again = within t (scan_blocks style layer base n (leaf + 1) t.cells t.rest) k (again t)
 
 pub first_fault : (style layer base n more leaf : ℕ) (cells : Cells) (bits : List Bool) (f : HeadFault) → n ≤ more → scan_blocks style layer base n leaf cells bits ≡ Err f →
     scan_blocks style layer base more leaf cells bits ≡ Err f
 first_fault style layer base zero more leaf cells bits f few h = absurd cc
 first_fault style layer base (suc n) zero leaf cells bits f few h = absurd (omega arith)
-first_fault style layer base (suc n) (suc more) leaf cells bits f few h = by (scan_block style layer (base + leaf) leaf cells bits) h
+first_fault style layer base (suc n) (suc more) leaf cells bits f few h =
+    by (scan_block style layer (base + leaf) leaf cells bits) h (λ t eq. first_fault style layer base n more (leaf + 1) t.cells t.rest f (omega arith) eq)
   where
-    within : (t : Told) (r : Result AllTold HeadFault) → scan_blocks style layer base n (leaf + 1) t.cells t.rest ≡ r → and_parts t.entry.parts r ≡ Err f →
+    within : (t : Told) (r : Result AllTold HeadFault) → and_parts t.entry.parts r ≡ Err f → (r ≡ Err f → scan_blocks style layer base more (leaf + 1) t.cells t.rest ≡ Err f) →
         and_parts t.entry.parts (scan_blocks style layer base more (leaf + 1) t.cells t.rest) ≡ Err f
-    within t (Err e) eq k = let is : e ≡ f = cc in ap (and_parts t.entry.parts) (first_fault style layer base n more (leaf + 1) t.cells t.rest f (omega arith) (subst (λ (x : HeadFault). scan_blocks style layer base n (leaf + 1) t.cells t.rest ≡ Err x) is eq))
-    within t (Ok x) eq k = absurd cc
+    within t (Err e) k again =
+        let is : e ≡ f = cc in
+        ap (and_parts t.entry.parts) (again (ap (λ (x : HeadFault). let y : Result AllTold HeadFault = Err x in y) is))
+    within t (Ok x) k again = absurd cc
 
-    by : (o : Result Told HeadFault) → and_then o (on_block style layer base n leaf) ≡ Err f → and_then o (on_block style layer base more leaf) ≡ Err f
-    by (Err e) k = let is : e ≡ f = cc in ap (λ (x : HeadFault). let y : Result AllTold HeadFault = Err x in y) is
-    by (Ok t) k = within t (scan_blocks style layer base n (leaf + 1) t.cells t.rest) refl k
+    by : (o : Result Told HeadFault) → and_then o (on_block style layer base n leaf) ≡ Err f →
+        ((t : Told) → scan_blocks style layer base n (leaf + 1) t.cells t.rest ≡ Err f → scan_blocks style layer base more (leaf + 1) t.cells t.rest ≡ Err f) →
+        and_then o (on_block style layer base more leaf) ≡ Err f
+    by (Err e) k again = let is : e ≡ f = cc in ap (λ (x : HeadFault). let y : Result AllTold HeadFault = Err x in y) is
+    by (Ok t) k again = within t (scan_blocks style layer base n (leaf + 1) t.cells t.rest) k (again t)
 
 -- a block that is silent stays so
 pub block_silent : (style layer block leaf other : ℕ) (cells : Cells) (bits : List Bool) (t : Told) → IsBand cells → leaf < length cells.blocks →
