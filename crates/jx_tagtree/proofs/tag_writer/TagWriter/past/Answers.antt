@@ -13,7 +13,7 @@ stop_of-requires c =
     let lt : c.args.leaf < c.self.inside.wide * c.self.inside.high = subst (λ (t : Tree). c.args.leaf < t.wide * t.high) (sym (ap (λ (w : Written). w.tree) c.self.view_is)) c.requires in
     let inside : (ways : List ℕ) → ways ≡ way c.self.inside.wide c.self.inside.high c.args.leaf → (k : ℕ) → k < length ways → get_or ways k 0 < length c.self.inside.nodes.items =
     λ ways e k k_lt. subst (λ (w : List ℕ). get_or w k 0 < length c.self.inside.nodes.items) (sym e) (way_inside c.self.inside.wide c.self.inside.high c.args.leaf k c.self.inside.nodes.items
-        c.self.invariant.tree.shape lt c.self.invariant.tree.long (subst (λ (w : List ℕ). k < length w) e k_lt)) in
+    c.self.invariant.tree.shape lt c.self.invariant.tree.long (subst (λ (w : List ℕ). k < length w) e k_lt)) in
     subst (λ (nodes : List Node). (k : ℕ) → k < length c.new-way.result → get_or c.new-way.result k 0 < length nodes) (sym c.deref-2.ensures.value)
     (inside c.new-way.result c.new-way.ensures)
 
