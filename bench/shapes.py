@@ -4,10 +4,11 @@
 usage: bench/shapes.py PROGRAM [-n COUNT] [-t SECONDS] [-s SEED] [-b BYTES] [-k KEPT]
 
 Draws codestreams of at most BYTES (100,000): so many tiles, components, resolutions, precincts, layers, code-blocks, tile-parts, progression
-changes and headers of tiles' own as fit, all packets empty, and options to rewrite them with; one in ten has too little tile data. It stops
-after COUNT files or SECONDS (600), or where it is told to end. The same SEED (1) gives the same files. Prints how often each status came, and the ten that took most
-processor seconds and the ten that took most memory, with what was drawn; the inputs of the dearest are kept in the folder KEPT, where one is
-named. A run may take a minute. Python's standard library is needed.
+changes and headers of tiles' own as fit, all packets empty, and options to rewrite them with; one in ten has too little tile data. One in eight
+has headers of many layers over one precinct of many code-blocks instead, of which few are included, all in layer 0. It stops after COUNT files
+or SECONDS (600), or where it is told to end. The same SEED (1) gives the same files. Prints how often each status came, and the ten that took
+most processor seconds and the ten that took most memory, with what was drawn; the inputs of the dearest are kept in the folder KEPT, where one
+is named. A run may take a minute. Python's standard library is needed.
 """
 
 import argparse
@@ -144,6 +145,72 @@ class Shape:
         return " ".join(f"{name} {getattr(self, name)}" for name in names) + " " + " ".join(self.options)
 
 
+class Headers:
+    """What is drawn of one precinct whose packets have headers, and its bytes."""
+
+    def __init__(self, pick, most):
+        self.wide, self.high = (pick.choice((1, 2, 30, 256, 2048)) for _ in (0, 1))
+        self.layers = pick.choice((2, 50, 1000, 65535))
+        self.options = ["--layers", "keep"] if pick.randrange(2) else []
+        count = min(pick.choice((1, 1, 3, 40)), self.wide * self.high)
+        self.included = sorted(divmod(at, self.wide) for at in pick.sample(range(self.wide * self.high), count))
+        self.sizes = [(self.wide, self.high)]
+        while self.sizes[-1] != (1, 1):
+            self.sizes.append(tuple(up(it, 2) for it in self.sizes[-1]))
+        self.bytes = self.codestream(most)
+
+    def way(self, down, across):
+        return [(level, down >> level, across >> level) for level in reversed(range(len(self.sizes)))]
+
+    def headers(self):
+        """The bits of the first packet's header, and those of each later one (T.800 B.10)."""
+        settled = {node for block in self.included for node in self.way(*block)}
+        below = {(level - 1, 2 * y + j, 2 * x + i) for level, y, x in settled if level for j in (0, 1) for i in (0, 1)}
+        beside = {(level, y, x) for level, y, x in below - settled if x < self.sizes[level][0] and y < self.sizes[level][1]}
+        bits, seen, zeros = [1], set(), set()
+        for block in sorted({(y << level, x << level) for level, y, x in beside} | set(self.included)):
+            for node in self.way(*block):
+                if node not in seen:
+                    seen.add(node)
+                    bits.append(int(node in settled))
+                if node not in settled:
+                    break
+            else:
+                fresh = set(self.way(*block)) - zeros
+                zeros |= fresh
+                bits += [1] * len(fresh) + [0, 0, 0, 0, 1]
+        return bits, [1] + [0] * (len(self.included) + len(beside))
+
+    def codestream(self, most):
+        first, later = map(packed, self.headers())
+        data = first + b"\x03" * len(self.included)
+        if len(data) + len(later) * (self.layers - 1) > most - 100:
+            return b""
+        data += later * (self.layers - 1)
+        siz = struct.pack(">H8IH", 0, *(4 * self.wide, 4 * self.high, 0, 0) * 2, 1) + bytes([7, 1, 1])
+        cod = struct.pack(">BBHB", 0, 0, self.layers, 0) + bytes([0, 0, 0, 0, 1])
+        sot = struct.pack(">HIBB", 0, 14 + len(data), 0, 1)
+        head = b"\xFF\x4F" + segment(0x51, siz) + segment(0x52, cod) + segment(0x5C, b"\x40\x40")
+        return head + segment(0x90, sot) + b"\xFF\x93" + data + b"\xFF\xD9"
+
+    def told(self):
+        return f"blocks {self.wide} by {self.high} layers {self.layers} included {len(self.included)} " + " ".join(self.options)
+
+
+def packed(bits):
+    """The bytes of a header, with a 0 stuffed after each FF (T.800 B.10.1)."""
+    out, room, now = bytearray(), 8, 0
+    for bit in bits:
+        room -= 1
+        now |= bit << room
+        if room == 0:
+            out.append(now)
+            room, now = 7 if now == 0xFF else 8, 0
+    if room < 8:
+        out.append(now)
+    return bytes(out)
+
+
 def run(program, source, target, options):
     """Processor seconds, KiB and status of one run."""
     null = os.open(os.devnull, os.O_WRONLY)
@@ -166,7 +233,7 @@ def main():
         source, target = os.path.join(folder, "in.j2k"), os.path.join(folder, "out.j2k")
         signal.signal(signal.SIGTERM, lambda *_: asked.__setattr__("n", 0))
         while sum(seen.values()) < asked.n and time.monotonic() < end:
-            shape = Shape(pick, asked.b)
+            shape = (Headers if pick.randrange(8) == 0 else Shape)(pick, asked.b)
             if not shape.bytes:
                 continue
             with open(source, "wb") as file:

@@ -7,12 +7,13 @@ use Rattle.jx_tagtree.specs.declared.BitFault.{BitFault}
 use Rattle.jx_tagtree.specs.declared.node.Node.{Node}
 use Rattle.jx_tagtree.specs.Header.{Reading, to_come, advance, Took}
 use Rattle.jx_tagtree.specs.Shape.{root, parent, way}
-use Rattle.jx_tagtree.specs.TagTree.{Tree, node_at, Agree, ValuesOf, IsTree, query, tree_after, is_past, HasRead, HasNothing}
+use Rattle.jx_tagtree.specs.TagTree.{Tree, node_at, Agree, ValuesOf, IsTree, query, tree_after, HasRead, HasNothing}
+use Rattle.jx_tagtree.specs.Past.{IsPast}
 use Rattle.jx_tagtree.specs.Scan.{Scanned, scan_way}
 use Rattle.jx_tagtree.specs.Questions.{all_bits, after_all}
 use Rattle.jx_tagtree.proofs.WayLemmas.{IsWay, way_is}
 use Rattle.jx_tagtree.proofs.TagLemmas.{After, scan_sound, scan_read, IsRead, scan_only, read_below, answer_is, scanned_of, WasRead}
-use Rattle.jx_tagtree.proofs.QuestionLemmas.{known_values, after_tree, after_values, past_nothing}
+use Rattle.jx_tagtree.proofs.QuestionLemmas.{known_values, after_tree, after_values, past_nothing, past_leaf}
 use Rattle.jx_packet_header.specs.Packet.{asked}
 use Rattle.jx_packet_header.specs.Scan.{Asked, asked_of, ask, Zeros, scan_more_zeros}
 use Rattle.jx_packet_header.specs.Frame.{Frame, frame}
@@ -94,8 +95,8 @@ module _ (tree : Tree) (leaf t : ℕ) (l : IsLeafOf tree leaf) where
   pub after_agrees : (values : ℕ → ℕ) → ValuesOf tree values → ValuesOf (tree_after values tree leaf t) values
   after_agrees values v = after_values tree leaf t l.shape l.is l.inside values v
 
--- past what is known of the root nothing is asked
-pub ask_past : (tree : Tree) (leaf t : ℕ) (bits : List Bool) → IsLeafOf tree leaf → is_past tree t ≡ true → ask tree leaf t bits ≡ Some (asked_is false tree bits)
+-- of a leaf that is past the threshold nothing is asked
+pub ask_past : (tree : Tree) (leaf t : ℕ) (bits : List Bool) → IsLeafOf tree leaf → IsPast tree leaf t → ask tree leaf t bits ≡ Some (asked_is false tree bits)
 ask_past tree leaf t bits l past =
     let some = known_values tree l.is in
     let n : HasNothing tree some.0 leaf t = past_nothing tree some.0 leaf t l.shape l.is l.inside some.1 past in
@@ -103,6 +104,29 @@ ask_past tree leaf t bits l past =
     ∙ ask_made tree leaf t l some.0 bits some.1
     ∙ ap (λ (b : Bool). Some (asked_is b (tree_after some.0 tree leaf t) bits)) n.answer
     ∙ ap (λ (x : Tree). Some (asked_is false x bits)) n.after
+
+pub past_unsettled : (tree : Tree) (leaf t : ℕ) → IsLeafOf tree leaf → IsPast tree leaf t → (node_at tree.nodes leaf).settled ≡ false
+past_unsettled tree leaf t l past = let some = known_values tree l.is in past_leaf tree some.0 leaf t l.shape l.is l.inside some.1 past
+
+-- a leaf whose value is below the threshold is settled
+pub ask_settles : (tree : Tree) (leaf t : ℕ) (bits : List Bool) (a : Asked) → ask tree leaf t bits ≡ Some a → a.below ≡ true → (node_at a.tree.nodes leaf).settled ≡ true
+unfolding ask
+ask_settles tree leaf t bits a h below = by (scan_way t tree.nodes (way tree.wide tree.high leaf) bits) h
+  where
+    both : (x y : Bool) → (x && y) ≡ true → x ≡ true
+    both true y e = refl
+    both false y e = e
+
+    by : (o : Option Scanned) → option_map (asked_of tree leaf t) o ≡ Some a → (node_at a.tree.nodes leaf).settled ≡ true
+    by None e = absurd cc
+    by (Some s) e =
+        let is : asked_of tree leaf t s ≡ a = cc in
+        subst (λ (x : Asked). (node_at x.tree.nodes leaf).settled ≡ true) is
+        (both (node_at s.nodes leaf).settled (nat_lt s.known t) (ap (λ (x : Asked). x.below) is ∙ below))
+
+pub query_settles : (tree : Tree) (values : ℕ → ℕ) (leaf t : ℕ) → IsLeafOf tree leaf → ValuesOf tree values → nat_lt (values leaf) t ≡ true → (node_at (tree_after values tree leaf t).nodes leaf).settled ≡ true
+query_settles tree values leaf t l v below =
+    ask_settles tree leaf t ((query values tree leaf t).bits ++ []) (asked_is (nat_lt (values leaf) t) (tree_after values tree leaf t) []) (ask_made tree leaf t l values [] v) below
 
 -- what `reach` says is what is asked
 pub reach_ok : (tree new : Tree) (leaf t : ℕ) (from to : Reading) (below : Bool) → IsLeafOf tree leaf → IsTree new →

@@ -1,5 +1,5 @@
 -- What is read of the blocks of a band, and of the bands of a precinct.
-use Rattle.std.proofs.Common.{◌≡◌, ℕ, zero, suc, ◌+◌, ◌-◌, ◌*◌, ◌<◌, ◌≤◌, ◌^◌, min, nat_le, Bool, true, false, List, [], ◌∷◌, ◌++◌, length, refl, sym, ap, ◌∙◌, subst, cond, arith, append_assoc, Some, None, Ok, Err, Result, inl, inr, ◌⊎◌, length-set, length-append, get_or, set, ◌≢◌, get_or-set_same, get_or-set_other}
+use Rattle.std.proofs.Common.{◌≡◌, ◌≢◌, ℕ, zero, suc, ◌+◌, ◌-◌, ◌*◌, ◌<◌, ◌≤◌, ◌^◌, min, nat_le, Bool, true, false, List, [], ◌∷◌, ◌++◌, length, refl, sym, ap, ◌∙◌, subst, cond, arith, append_assoc, Some, None, Ok, Err, Result, inl, inr, ◌⊎◌, length-set, length-append, get_or, set, ◌≢◌, get_or-set_same, get_or-set_other}
 use Rattle.std.specs.Prelude.{Option}
 use Rattle.std.specs.Bool.{MatchBool}
 use Rattle.std.proofs.lemmas.Bool.{cases_eq, cases_lt, leb-false, leb-true}
@@ -8,7 +8,7 @@ use Rattle.jx_base.specs.Passes.{end_pass}
 use Rattle.jx_tagtree.specs.Header.{low_bits}
 use Rattle.jx_tagtree.proofs.HeaderLemmas.{length-low_bits}
 use Rattle.jx_tagtree.specs.Shape.{IsShape}
-use Rattle.jx_tagtree.specs.TagTree.{Tree, ValuesOf, IsTree, tree_after}
+use Rattle.jx_tagtree.specs.TagTree.{Tree, node_at, ValuesOf, IsTree, tree_after}
 use Rattle.jx_tagtree.specs.Questions.{Question, after_all}
 use Rattle.jx_tagtree.proofs.QuestionLemmas.{known_values}
 use Rattle.jx_packet_header.specs.declared.HeaderPart.{HeaderPart}
@@ -20,9 +20,10 @@ use Rattle.jx_packet_header.specs.declared.known.Known.{Known}
 use Rattle.jx_packet_header.specs.Words.{pass_word, raise_word}
 use Rattle.jx_packet_header.specs.Parts.{one_more, cut, width, AreHeaderParts, length_bits}
 use Rattle.jx_packet_header.specs.Packet.{Cells, Values, Agree, Entry, nothing, contributes, block_at, block_after, unknown_block, told_bits, included_bits, most_passes, IsIncluded, asked, zero_questions, zero_bits, zero_after, zero_planes, first_bits, first_after, IsInclusion, entry_bits, cells_first, cells_included, entry_after, IsEntry, ReachesPlanes, PassesPlanes, Breaks, blocks_bits, blocks_after, AreEntries, parts_told, BandTold, IsBandTold, band_bits, band_after, bands_bits, bands_after, AreBandsTold, AgreeAfter, bands_parts, BandBreaks, BandStands, BandsBreak}
-use Rattle.jx_packet_header.specs.Kept.{AreTrees, IsLeafOf, IsKnown, IsBand, IsSilent}
+use Rattle.jx_packet_header.specs.Kept.{AreTrees, IsLeafOf, IsKnown, AreSettled, IsBand, IsSilent}
 use Rattle.jx_packet_header.specs.Scan.{Found, or_bits, and_then, Asked, scan_first, Zeros, scan_zeros, scan_entry, Told, told_of, and_told, scan_included, scan_block, AllTold, after_told, and_parts, scan_blocks, scan_band, BandsRead, after_band, and_band, scan_bands}
 use Rattle.jx_packet_header.proofs.AskLemmas.{asked_is, ask_past, after_leaf, after_agrees}
+use Rattle.jx_packet_header.proofs.SettledLemmas.{first_unsettled, entry_settled, entry_silent}
 use Rattle.jx_packet_header.proofs.BlockLemmas.{IsBlockOf, told_is, on_zeros, on_first, first_leaf, first_agrees, zero_leaf, zero_read, below_counted, reaches_counted, counted, entry_breaks, TooMany, block_made, block_over, BlockRead, block_read, FirstRead, first_read}
 
 -- ---- trees stay trees
@@ -583,11 +584,14 @@ first_band cells old leaf layer bits a same b lt h =
     let lt' : leaf < length cells.blocks = subst (λ (c : Cells). leaf < length c.blocks) (sym same) lt in
     let l = (block_of cells leaf b'.trees lt').in_first in
     let s = first_size (block_at cells leaf).zero cells.first leaf layer bits a l h in
+    let f = known_values a.tree (first_leaf (block_at cells leaf).zero cells.first leaf layer bits a l h).is in
+    let r : FirstRead (block_at cells leaf).zero f.0 cells.first leaf layer bits a = first_read (block_at cells leaf).zero f.0 cells.first leaf layer bits a l h f.1 in
     let size : SameSize (record cells { first = a.tree }) cells = record { wide = s.0; high = s.1; zeros_wide = refl; zeros_high = refl; long = refl; planes = refl } in
     record {
       trees = same_trees (record cells { first = a.tree }) cells size b'.trees (first_leaf (block_at cells leaf).zero cells.first leaf layer bits a l h).is b'.trees.zeros_is;
       planes = b'.planes;
       blocks = b'.blocks;
+      settled = λ q un. b'.settled q (first_unsettled (block_at cells leaf).zero f.0 cells.first leaf layer q (ap (λ (x : Tree). (node_at x.nodes q).settled) (sym r.tree_is) ∙ un));
     }
 
 -- a length's field lies within the bits
@@ -667,12 +671,13 @@ block_band style layer block leaf cells bits t b lt small h =
         trees = k.trees;
         planes = subst (λ (n : ℕ). n ≤ 255) (sym k.planes) b.planes;
         blocks = subst (λ (c : Cells). (i : ℕ) → IsKnown (block_at c i)) (sym r.cells_are) (entry_bound v style layer block leaf cells t.entry bits t.rest b lt r.is r.bits_are small);
+        settled = subst (λ (c : Cells). AreSettled c) (sym r.cells_are) (entry_settled v style layer block leaf cells t.entry o.in_first r.before.in_first b.settled r.is);
       },
       k.long,
     )
 
 -- ---- block after block
-parts_parts : (ps qs : List HeaderPart) (r : Result AllTold HeadFault) → and_parts ps (and_parts qs r) ≡ and_parts (ps ++ qs) r
+pub parts_parts : (ps qs : List HeaderPart) (r : Result AllTold HeadFault) → and_parts ps (and_parts qs r) ≡ and_parts (ps ++ qs) r
 parts_parts ps qs (Err e) = refl
 parts_parts ps qs (Ok a) = ap (λ (l : List HeaderPart). Ok (all_is l a.cells a.rest)) (sym (append_assoc ps qs a.parts))
 
@@ -687,7 +692,7 @@ blocks_step whole begun now new style layer base (suc more) leaf cells after bit
     ∙ ap (λ (l : List HeaderPart). and_parts l (scan_blocks style layer base more (leaf + 1) after rest)) (sym is)
     ∙ ap (λ (k : ℕ). and_parts new (scan_blocks style layer base k (leaf + 1) after rest)) less
 
-whole_fault : (begun : List HeaderPart) (whole : Result AllTold HeadFault) (f : HeadFault) → and_parts begun whole ≡ Err f → whole ≡ Err f
+pub whole_fault : (begun : List HeaderPart) (whole : Result AllTold HeadFault) (f : HeadFault) → and_parts begun whole ≡ Err f → whole ≡ Err f
 whole_fault begun (Err e) f h = let is : e ≡ f = cc in ap (λ (x : HeadFault). let y : Result AllTold HeadFault = Err x in y) is
 whole_fault begun (Ok x) f h = absurd cc
 
@@ -724,26 +729,119 @@ abbrev asked_block : ℕ → ℕ → ℕ → Cells → Asked → Result Told Hea
 asked_block style block leaf cells a =
     cond a.below (scan_included style block leaf (record cells { first = a.tree }) a.rest) (Ok (told_is nothing (record cells { first = a.tree }) a.rest))
 
-silent_block : (style layer block leaf : ℕ) (cells : Cells) (bits : List Bool) → IsBand cells → leaf < length cells.blocks → IsSilent layer cells →
+silent_block : (style layer block leaf : ℕ) (cells : Cells) (bits : List Bool) → IsBand cells → leaf < length cells.blocks → IsSilent layer cells leaf →
     scan_block style layer block leaf cells bits ≡ Ok (told_is nothing cells bits)
 silent_block style layer block leaf cells bits b lt s =
     let l : IsLeafOf cells.first leaf = (block_of cells leaf b.trees lt).in_first in
     let first : scan_first (block_at cells leaf).zero cells.first leaf layer bits ≡ Some (asked_is false cells.first bits) =
-    ap (λ (z : Option ℕ). scan_first z cells.first leaf layer bits) (s.none leaf) ∙ ask_past cells.first leaf (layer + 1) bits l s.past in
+    ap (λ (z : Option ℕ). scan_first z cells.first leaf layer bits) s.none ∙ ask_past cells.first leaf (layer + 1) bits l s.past in
     ap (λ (o : Option Asked). and_then (or_bits o) (asked_block style block leaf cells)) first
 
-pub silent_blocks : (style layer base more leaf : ℕ) (cells : Cells) (bits : List Bool) → IsBand cells → leaf + more ≤ length cells.blocks → IsSilent layer cells →
-    scan_blocks style layer base more leaf cells bits ≡ Ok (all_is [] cells bits)
-silent_blocks style layer base zero leaf cells bits b le s = refl
-silent_blocks style layer base (suc more) leaf cells bits b le s =
-    ap (λ (r : Result Told HeadFault). and_then r (on_block style layer base more leaf)) (silent_block style layer (base + leaf) leaf cells bits b (omega arith) s)
-    ∙ ap (and_parts []) (silent_blocks style layer base more (leaf + 1) cells bits b (omega arith) s)
+no_parts : (r : Result AllTold HeadFault) → and_parts [] r ≡ r
+no_parts (Err e) = refl
+no_parts (Ok a) = refl
 
--- the rest of a band is silent
-pub blocks_silent : (whole : Result AllTold HeadFault) (begun now : List HeaderPart) (style layer base left leaf : ℕ) (cells : Cells) (bits : List Bool) → IsBand cells → leaf + left ≤ length cells.blocks →
-    IsSilent layer cells → and_parts begun whole ≡ and_parts now (scan_blocks style layer base left leaf cells bits) → BandSaid whole begun now cells bits
-blocks_silent whole begun now style layer base left leaf cells bits b le s h =
-    blocks_said whole begun now style layer base 0 leaf cells bits refl (h ∙ ap (and_parts now) (silent_blocks style layer base left leaf cells bits b le s))
+-- a run of blocks is passed over
+pub silent_blocks : (style layer base n more leaf : ℕ) (cells : Cells) (bits : List Bool) → IsBand cells → n ≤ more → leaf + n ≤ length cells.blocks →
+    ((other : ℕ) → leaf ≤ other → other < leaf + n → IsSilent layer cells other) →
+    scan_blocks style layer base more leaf cells bits ≡ scan_blocks style layer base (more - n) (leaf + n) cells bits
+silent_blocks style layer base zero more leaf cells bits b few le s =
+    let m : more ≡ more - 0 = omega arith in
+    let l : leaf ≡ leaf + 0 = omega arith in
+    ap (λ (k : ℕ). scan_blocks style layer base k leaf cells bits) m ∙ ap (λ (k : ℕ). scan_blocks style layer base (more - 0) k cells bits) l
+silent_blocks style layer base (suc n) zero leaf cells bits b few le s = absurd (omega arith)
+silent_blocks style layer base (suc n) (suc more) leaf cells bits b few le s =
+    let m : more - n ≡ suc more - suc n = omega arith in
+    let l : leaf + 1 + n ≡ leaf + suc n = omega arith in
+    ap (λ (r : Result Told HeadFault). and_then r (on_block style layer base more leaf)) (silent_block style layer (base + leaf) leaf cells bits b (omega arith) (s leaf (omega arith) (omega arith)))
+    ∙ no_parts (scan_blocks style layer base more (leaf + 1) cells bits)
+    ∙ silent_blocks style layer base n more (leaf + 1) cells bits b (omega arith) (omega arith) (λ other ge lt. s other (omega arith) (omega arith))
+    ∙ ap (λ (k : ℕ). scan_blocks style layer base k (leaf + 1 + n) cells bits) m
+    ∙ ap (λ (k : ℕ). scan_blocks style layer base (suc more - suc n) k cells bits) l
+
+-- the first blocks of some, and those behind them
+pub first_blocks : (style layer base n more leaf : ℕ) (cells : Cells) (bits : List Bool) (a : AllTold) → n ≤ more → scan_blocks style layer base n leaf cells bits ≡ Ok a →
+    scan_blocks style layer base more leaf cells bits ≡ and_parts a.parts (scan_blocks style layer base (more - n) (leaf + n) a.cells a.rest)
+first_blocks style layer base zero more leaf cells bits a few h =
+    let is : all_is [] cells bits ≡ a = cc in
+    let m : more ≡ more - 0 = omega arith in
+    let l : leaf ≡ leaf + 0 = omega arith in
+    subst (λ (x : AllTold). scan_blocks style layer base more leaf cells bits ≡ and_parts x.parts (scan_blocks style layer base (more - 0) (leaf + 0) x.cells x.rest)) is
+    (ap (λ (k : ℕ). scan_blocks style layer base k leaf cells bits) m ∙ ap (λ (k : ℕ). scan_blocks style layer base (more - 0) k cells bits) l
+    ∙ sym (no_parts (scan_blocks style layer base (more - 0) (leaf + 0) cells bits)))
+first_blocks style layer base (suc n) zero leaf cells bits a few h = absurd (omega arith)
+first_blocks style layer base (suc n) (suc more) leaf cells bits a few h =
+    by (scan_block style layer (base + leaf) leaf cells bits) h (λ t x eq. first_blocks style layer base n more (leaf + 1) t.cells t.rest x (omega arith) eq)
+  where
+    m : more - n ≡ suc more - suc n
+    m = omega arith
+
+    l : leaf + 1 + n ≡ leaf + suc n
+    l = omega arith
+
+    within : (t : Told) (r : Result AllTold HeadFault) → and_parts t.entry.parts r ≡ Ok a →
+        ((x : AllTold) → r ≡ Ok x → scan_blocks style layer base more (leaf + 1) t.cells t.rest ≡ and_parts x.parts (scan_blocks style layer base (more - n) (leaf + 1 + n) x.cells x.rest)) →
+        and_parts t.entry.parts (scan_blocks style layer base more (leaf + 1) t.cells t.rest) ≡ and_parts a.parts (scan_blocks style layer base (suc more - suc n) (leaf + suc n) a.cells a.rest)
+    within t (Err e) k again = absurd cc
+    within t (Ok x) k again =
+        let is : after_told t.entry.parts x ≡ a = cc in
+        subst (λ (y : AllTold). and_parts t.entry.parts (scan_blocks style layer base more (leaf + 1) t.cells t.rest) ≡ and_parts y.parts (scan_blocks style layer base (suc more - suc n) (leaf + suc n) y.cells y.rest)) is
+        (ap (and_parts t.entry.parts) (again x refl)
+        ∙ parts_parts t.entry.parts x.parts (scan_blocks style layer base (more - n) (leaf + 1 + n) x.cells x.rest)
+        ∙ ap (λ (k : ℕ). and_parts (t.entry.parts ++ x.parts) (scan_blocks style layer base k (leaf + 1 + n) x.cells x.rest)) m
+        ∙ ap (λ (k : ℕ). and_parts (t.entry.parts ++ x.parts) (scan_blocks style layer base (suc more - suc n) k x.cells x.rest)) l)
+
+    by : (o : Result Told HeadFault) → and_then o (on_block style layer base n leaf) ≡ Ok a →
+        ((t : Told) (x : AllTold) → scan_blocks style layer base n (leaf + 1) t.cells t.rest ≡ Ok x →
+        scan_blocks style layer base more (leaf + 1) t.cells t.rest ≡ and_parts x.parts (scan_blocks style layer base (more - n) (leaf + 1 + n) x.cells x.rest)) →
+        and_then o (on_block style layer base more leaf) ≡ and_parts a.parts (scan_blocks style layer base (suc more - suc n) (leaf + suc n) a.cells a.rest)
+    by (Err e) k again = absurd cc
+    by (Ok t) k again = within t (scan_blocks style layer base n (leaf + 1) t.cells t.rest) k (again t)
+
+pub first_fault : (style layer base n more leaf : ℕ) (cells : Cells) (bits : List Bool) (f : HeadFault) → n ≤ more → scan_blocks style layer base n leaf cells bits ≡ Err f →
+    scan_blocks style layer base more leaf cells bits ≡ Err f
+first_fault style layer base zero more leaf cells bits f few h = absurd cc
+first_fault style layer base (suc n) zero leaf cells bits f few h = absurd (omega arith)
+first_fault style layer base (suc n) (suc more) leaf cells bits f few h =
+    by (scan_block style layer (base + leaf) leaf cells bits) h (λ t eq. first_fault style layer base n more (leaf + 1) t.cells t.rest f (omega arith) eq)
+  where
+    within : (t : Told) (r : Result AllTold HeadFault) → and_parts t.entry.parts r ≡ Err f → (r ≡ Err f → scan_blocks style layer base more (leaf + 1) t.cells t.rest ≡ Err f) →
+        and_parts t.entry.parts (scan_blocks style layer base more (leaf + 1) t.cells t.rest) ≡ Err f
+    within t (Err e) k again =
+        let is : e ≡ f = cc in
+        ap (and_parts t.entry.parts) (again (ap (λ (x : HeadFault). let y : Result AllTold HeadFault = Err x in y) is))
+    within t (Ok x) k again = absurd cc
+
+    by : (o : Result Told HeadFault) → and_then o (on_block style layer base n leaf) ≡ Err f →
+        ((t : Told) → scan_blocks style layer base n (leaf + 1) t.cells t.rest ≡ Err f → scan_blocks style layer base more (leaf + 1) t.cells t.rest ≡ Err f) →
+        and_then o (on_block style layer base more leaf) ≡ Err f
+    by (Err e) k again = let is : e ≡ f = cc in ap (λ (x : HeadFault). let y : Result AllTold HeadFault = Err x in y) is
+    by (Ok t) k again = within t (scan_blocks style layer base n (leaf + 1) t.cells t.rest) k (again t)
+
+-- a block that is silent stays so
+pub block_silent : (style layer block leaf other : ℕ) (cells : Cells) (bits : List Bool) (t : Told) → IsBand cells → leaf < length cells.blocks →
+    scan_block style layer block leaf cells bits ≡ Ok t → other ≢ leaf → IsSilent layer cells other → IsSilent layer t.cells other
+block_silent style layer block leaf other cells bits t b lt h ne s =
+    let o = block_of cells leaf b.trees lt in
+    let l = block_leaf style layer block leaf cells bits t o h in
+    let f = known_values t.cells.first l.in_first.is in
+    let z = known_values t.cells.zeros l.in_zeros.is in
+    let v : Values = record { first = f.0; zeros = z.0 } in
+    let r : BlockRead v style layer block leaf cells bits t = block_read v style layer block leaf cells bits t o h (record { in_first = f.1; in_zeros = z.1 }) in
+    subst (λ (c : Cells). IsSilent layer c other) (sym r.cells_are) (entry_silent v layer leaf other cells t.entry ne s)
+
+-- a band keeps its width
+pub block_wide : (style layer block leaf : ℕ) (cells : Cells) (bits : List Bool) (t : Told) → IsBand cells → leaf < length cells.blocks →
+    scan_block style layer block leaf cells bits ≡ Ok t → (t.cells.first.wide ≡ cells.first.wide) × (t.cells.first.high ≡ cells.first.high)
+block_wide style layer block leaf cells bits t b lt h =
+    let o = block_of cells leaf b.trees lt in
+    let l = block_leaf style layer block leaf cells bits t o h in
+    let f = known_values t.cells.first l.in_first.is in
+    let z = known_values t.cells.zeros l.in_zeros.is in
+    let v : Values = record { first = f.0; zeros = z.0 } in
+    let r : BlockRead v style layer block leaf cells bits t = block_read v style layer block leaf cells bits t o h (record { in_first = f.1; in_zeros = z.1 }) in
+    let s : SameSize t.cells cells = subst (λ (c : Cells). SameSize c cells) (sym r.cells_are) (entry_size v layer leaf cells t.entry) in
+    (s.wide, s.high)
 
 -- ---- the values that are told agree with what is known afterwards
 blocks_agree : (v : Values) (style layer base stop leaf : ℕ) (cells : Cells) (es : List Entry) → AreTrees cells → Agree cells v → stop ≡ length cells.blocks →

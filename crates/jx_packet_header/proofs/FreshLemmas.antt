@@ -50,6 +50,7 @@ fresh_is b is lt few = record {
   };
   planes = is.planes;
   blocks = λ i. subst (λ (k : Known). IsKnown k) (sym (unknown_at (b.wide * b.high) i)) (record { passes = omega arith; lblock = omega arith });
+  settled = λ i un. ap (λ (k : Known). k.zero) (unknown_at (b.wide * b.high) i);
 }
 
 pub fresh_are : (bands : List BandCells) → AreBandCells bands → cells_in bands ≤ most_blocks → AreBands (fresh_bands bands) × (length (all_blocks (fresh_bands bands)) ≤ cells_in bands)

@@ -6,10 +6,12 @@ mod NotedLemmas
 mod ZerosLemmas
 mod AskLemmas
 pub mod BlockLemmas
+mod SettledLemmas
 mod StopLemmas
 mod StopBlockLemmas
 pub mod BandLemmas
 mod BandLoopLemmas
+mod RowLemmas
 pub mod PacketLemmas
 mod KindLemmas
 mod StuffedLemmas

@@ -1,15 +1,17 @@
 //! What packet headers have of the code-blocks of a band, read (T.800, B.10).
 
-ghost use Rattle.std.specs.Prelude.{◌≡◌, ◌<◌, ◌≤◌, ◌+◌, ◌-◌, ◌^◌, true, length, IfOk, IfErr, OnOk};
+ghost use Rattle.std.specs.Prelude.{◌≡◌, ◌≢◌, ◌<◌, ◌≤◌, ◌+◌, ◌-◌, ◌*◌, ◌^◌, ℕ, length, IfOk, IfErr, OnOk};
 ghost use Rattle.jx_tagtree.specs.Header.{to_come};
 ghost use Rattle.jx_packet_header.specs.Packet.{Cells, most_passes};
-ghost use Rattle.jx_packet_header.specs.Scan.{scan_entry, scan_included, scan_block, scan_band};
+ghost use Rattle.jx_packet_header.specs.Scan.{scan_entry, scan_included, scan_block, scan_blocks, scan_band};
 ghost use Rattle.jx_packet_header.specs.Frame.{frame};
-ghost use Rattle.jx_packet_header.specs.Kept.{IsKnown, IsBand, IsSilent};
+ghost use Rattle.jx_packet_header.specs.Kept.{IsKnown, IsBand, IsSilent, AreSilent, KeepsSize};
+ghost use Rattle.jx_tagtree.specs.Past.{AreUnder};
 ghost use Rattle.jx_packet_header.specs.Said.{Refuses, EntrySaid, BlockSaid, BandSaid};
 
 use crate::parts::read_parts;
 use crate::query::{read_inclusion, read_zero};
+use crate::rows::end_under;
 use crate::words::{read_passes, read_raise};
 use crate::{HeadFault, HeaderPart, Known};
 use jx_base::Style;
@@ -25,20 +27,14 @@ pub(crate) struct Band {
     pub(crate) zeros: TagReader,
     pub(crate) planes: u32,
     pub(crate) blocks: Vec<Known>,
-    /// Whether some block was included.
-    pub(crate) included: bool,
 }
 
 impl Model for Band {
-    ghost use Rattle.std.specs.Prelude.{◌≡◌, false};
     ghost use Rattle.jx_packet_header.specs.Packet.{Cells};
-    ghost use Rattle.jx_packet_header.specs.Kept.{NoneIncluded};
 
     ghost Value = { Cells };
 
     ghost view = { λ b. record { first = b.first; zeros = b.zeros; planes = b.planes; blocks = b.blocks.items } };
-
-    ghost invariant = { λ b. b.included ≡ false → NoneIncluded b.blocks.items };
 }
 
 /// The most passes that a block of so many planes may have.
@@ -117,7 +113,6 @@ fn read_included(
     }
     match read_entry(style, block, band.planes, zero, known, bits, parts) {
         Ok(after) => {
-            band.included = true;
             band.blocks[leaf as usize] = after;
             Ok(())
         }
@@ -150,12 +145,61 @@ pub(crate) fn read_block(
     }
 }
 
-/// Whether a header of a layer has no bit of any of a band's blocks from here on, as none was included and
-/// what is known of the root says that none is now.
-fn is_silent(band: &Band, layer: u16) -> bool
-    ensures { result ≡ true → IsSilent layer band.now }
+/// The place on a block's way of a node of which a header of a layer has no further bit: the other blocks
+/// under it are silent. It is 0, a node without other blocks, where none is known.
+fn silent_place(band: &Band, layer: u16, leaf: u32) -> usize
+    requires band { IsBand band.now }
+    requires leaf { leaf < length band.now.blocks }
+    ensures low { result ≤ 22 }
+    ensures silent { (other : ℕ) → other < length band.now.blocks → other ≢ leaf → AreUnder band.now.first.wide result leaf other → IsSilent layer band.now other }
 {
-    !band.included && band.first.is_past(u32::from(layer) + 1)
+    if band.blocks[leaf as usize].zero.is_some() {
+        return 0;
+    }
+    match band.first.past(leaf, u32::from(layer) + 1) {
+        Some(place) => place,
+        None => 0,
+    }
+}
+
+/// Reads what a header of a layer has of a row of a band's blocks, and appends the parts. It gives the next
+/// row of which the header may have a bit.
+fn read_row(
+    band: &mut Band,
+    style: Style,
+    layer: u16,
+    base: u32,
+    down: u32,
+    bits: &mut BitReader<'_>,
+    parts: &mut Vec<HeaderPart>,
+) -> Result<u32, HeadFault>
+    requires band { IsBand band.old }
+    requires row { down < band.old.first.high }
+    requires room { base + length band.old.blocks < 2 ^ 32 }
+    requires few { (frame bits.old).total < 2 ^ 67 }
+    ensures ok { OnOk result (BandSaid (scan_blocks style.bits layer base band.old.first.wide (down * band.old.first.wide) band.old (to_come bits.old)) parts.old.items parts.new.items band.new (to_come bits.new)) }
+    ensures kept { OnOk result (IsBand band.new) }
+    ensures size { OnOk result (KeepsSize band.new band.old) }
+    ensures frame { OnOk result (frame bits.new ≡ frame bits.old) }
+    ensures next { IfOk result (λ next. down < next) }
+    ensures silent { IfOk result (λ next. AreSilent layer band.new (down + 1) next band.new.first.wide) }
+    ensures err { IfErr result (λ e. Refuses e (scan_blocks style.bits layer base band.old.first.wide (down * band.old.first.wide) band.old (to_come bits.old))) }
+{
+    let wide = band.first.wide();
+    let first = down * wide;
+    let mut next = u32::MAX;
+    let mut across = 0;
+    while across < wide {
+        let leaf = first + across;
+        match read_block(band, style, layer, base + leaf, leaf, bits, parts) {
+            Ok(()) => {}
+            Err(fault) => return Err(fault),
+        }
+        let place = silent_place(band, layer, leaf);
+        next = next.min(end_under(down, place));
+        across = end_under(across, place).min(wide);
+    }
+    Ok(next)
 }
 
 /// Reads what a header of a layer has of a band, whose first block has the number `base`, and appends
@@ -177,13 +221,11 @@ pub(crate) fn read_band(
     ensures frame { OnOk result (frame bits.new ≡ frame bits.old) }
     ensures err { IfErr result (λ e. Refuses e (scan_band style.bits layer base band.old (to_come bits.old))) }
 {
-    let count = band.blocks.len() as u32;
-    for leaf in 0..count {
-        if is_silent(band, layer) {
-            return Ok(());
-        }
-        match read_block(band, style, layer, base + leaf, leaf, bits, parts) {
-            Ok(()) => {}
+    let high = band.first.high();
+    let mut down = 0;
+    while down < high {
+        match read_row(band, style, layer, base, down, bits, parts) {
+            Ok(next) => down = next.min(high),
             Err(fault) => return Err(fault),
         }
     }

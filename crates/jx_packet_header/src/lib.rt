@@ -10,6 +10,7 @@ mod precinct;
 mod precinct_out;
 mod put;
 mod query;
+mod rows;
 mod words;
 
 pub use known::Known;

@@ -55,7 +55,6 @@ pub(crate) fn fresh_band(alloc: Global, cells: BandCells) -> Result<Band, NoMemo
         zeros: TagReader::new(alloc, cells.wide, cells.high)?,
         planes: cells.planes,
         blocks: vec![in alloc; unknown; count]?,
-        included: false,
     })
 }
 

@@ -1,16 +1,17 @@
 -- Laws of queries.
-use Rattle.std.proofs.Common.{◌≡◌, ◌&&◌, ℕ, zero, suc, ◌+◌, ◌*◌, ◌<◌, ◌≤◌, max, nat_lt, nat_le, not, Bool, true, false, List, [], ◌∷◌, ◌++◌, length, get_or, map, replicate, refl, sym, ap, ◌∙◌, subst, cond, arith, append_assoc, Some, inl, inr}
-use Rattle.std.proofs.lemmas.List.{append_cancel_right, length-replicate, get_or-replicate, get_or_past}
-use Rattle.std.proofs.lemmas.Bool.{cases_Bool, cases_lt}
+use Rattle.std.proofs.Common.{◌≡◌, ◌&&◌, ◌||◌, ◌⊎◌, set, ℕ, zero, suc, ◌+◌, ◌*◌, ◌<◌, ◌≤◌, max, nat_lt, nat_le, Bool, true, false, List, [], ◌∷◌, ◌++◌, length, get_or, map, replicate, refl, sym, ap, ◌∙◌, subst, cond, arith, append_assoc, Some, inl, inr}
+use Rattle.std.proofs.lemmas.List.{append_cancel_right, length-replicate, get_or-replicate, get_or_past, set-get_or}
+use Rattle.std.proofs.lemmas.Bool.{cases_Bool, cases_lt, cases_eq}
 use Rattle.std.proofs.lemmas.Bool.Decides.{nat_tests}
 use Rattle.jx_tagtree.specs.declared.node.Node.{Node}
 use Rattle.jx_tagtree.specs.Shape.{IsShape, root, parent, way}
-use Rattle.jx_tagtree.specs.TagTree.{unknown, node_at, IsValueOf, Tree, query, tree_after, fresh, AreValues, ValuesOf, IsTree, Walk, walk, step, is_past, HasNothing}
+use Rattle.jx_tagtree.specs.TagTree.{unknown, node_at, IsValueOf, Tree, query, tree_after, fresh, AreValues, ValuesOf, IsTree, Walk, walk, step, is_told, node_after, Agree, HasNothing}
+use Rattle.jx_tagtree.specs.Past.{Stops, IsPast}
 use Rattle.jx_tagtree.specs.Scan.{Scanned, scan_way}
 use Rattle.jx_tagtree.specs.Leaves.{least_leaf, AreLeaves}
 use Rattle.jx_tagtree.specs.Questions.{Question, all_bits, after_all, answers, AreAtLeaves, OneReading, AreReadBack}
 use Rattle.jx_tagtree.proofs.WayLemmas.{IsWay, at_top, under, way_is}
-use Rattle.jx_tagtree.proofs.TagLemmas.{Sound, Rising, After, scan_sound, IsRead, scan_only, answer_is, scanned_of, unsettled_under, walk_at, walked, stepped_is}
+use Rattle.jx_tagtree.proofs.TagLemmas.{Sound, Rising, After, scan_sound, IsRead, scan_only, answer_is, scanned_of, unsettled_under, walk_at, walked, told_node, told_bits, stepped_is, way_head, at_other}
 use Rattle.jx_tagtree.proofs.LeafLemmas.{least_are_values, least_of_leaf}
 
 -- ---- nothing known
@@ -154,19 +155,58 @@ record Nothing (values : ℕ → ℕ) (t : ℕ) (nodes : List Node) (n : ℕ) (w
   closed : (node_at nodes n).settled ≡ false
   least : t ≤ values n
 
-past_way : (up : ℕ → ℕ) (top t : ℕ) (values : ℕ → ℕ) (nodes : List Node) (n : ℕ) (ways : List ℕ) → IsWay up top n ways → Sound up top nodes → Rising up top values → t ≤ values top →
-    (node_at nodes top).settled ≡ false → t ≤ (node_at nodes top).known → Nothing values t nodes n ways
-past_way up top t values nodes _ _ at_top sound rising least unsettled reached =
+-- a node that is settled has no bits
+settled_step : (values : ℕ → ℕ) (t n : ℕ) (nodes : List Node) (known : ℕ) → (node_at nodes n).settled ≡ true → step values t n (walked nodes known) ≡ walked nodes (max known (node_at nodes n).known)
+settled_step values t n nodes known settled =
+    let node : Node = node_at nodes n in
+    let start : ℕ = max node.known known in
+    let told : is_told node start t ≡ true = ap (λ (b : Bool). b || nat_le t start) settled in
+    ap (λ (b : Bool). walk_at (set nodes n (told_node b node start (values n) t)) (max known (told_node b node start (values n) t).known) (told_bits b start (values n) t)) told
+    ∙ ap (λ (l : List Node). walked l (max known node.known)) (set-get_or nodes n unknown)
+
+-- nor have those over it
+settled_way : (up : ℕ → ℕ) (top t : ℕ) (values : ℕ → ℕ) (nodes : List Node) (n : ℕ) (ways : List ℕ) → IsWay up top n ways → Sound up top nodes → (node_at nodes n).settled ≡ true →
+    (known : ℕ) × (walk values t nodes ways ≡ walked nodes known)
+settled_way up top t values nodes _ _ at_top sound settled = (max 0 (node_at nodes top).known, settled_step values t top nodes 0 settled)
+settled_way up top t values nodes _ _ (under {n} {over} lt w) sound settled =
+    let above = settled_way up top t values nodes (up n) over w sound (sound n lt settled).0 in
+    (max above.0 (node_at nodes n).known, ap (step values t n) above.1 ∙ settled_step values t n nodes above.0 settled)
+
+stop_way : (up : ℕ → ℕ) (top t : ℕ) (values : ℕ → ℕ) (nodes : List Node) (n : ℕ) (ways : List ℕ) → IsWay up top n ways → Sound up top nodes → Rising up top values → Agree values nodes →
+    (k : ℕ) → Stops nodes ways k t → Nothing values t nodes n ways
+stop_way up top t values nodes _ _ at_top sound rising agree zero st =
+    let unsettled : (node_at nodes top).settled ≡ false = st.unsettled in
+    let reached : t ≤ (node_at nodes top).known = st.reached in
     let s = stepped_is values t top nodes 0 unsettled (omega arith) in
+    let fits : IsValueOf (node_at nodes top) (values top) = agree top in
     record {
       bits = ap (λ (w : Walk). w.bits) s;
       nodes_are = ap (λ (w : Walk). w.nodes) s;
       reached = (let e : (walk values t nodes (top ∷ [])).known ≡ max 0 (node_at nodes top).known = ap (λ (w : Walk). w.known) s in omega arith);
       closed = unsettled;
-      least = least;
+      least = (let k : (node_at nodes top).known ≤ values top = fits.known in omega arith);
     }
-past_way up top t values nodes _ _ (under {n} {over} lt w) sound rising least unsettled reached =
-    let above : Nothing values t nodes (up n) over = past_way up top t values nodes (up n) over w sound rising least unsettled reached in
+stop_way up top t values nodes _ _ at_top sound rising agree (suc k) st = absurd (let lt : suc k < 1 = st.inside in omega arith)
+stop_way up top t values nodes _ _ (under {n} {over} lt w) sound rising agree zero st =
+    let head = way_head up top (up n) over w in
+    let some : 0 < length over = head.1 in
+    let parent_is : (node_at nodes (up n)).settled ≡ true = subst (λ (q : ℕ). (node_at nodes q).settled ≡ true) head.0 (st.over (omega arith)) in
+    let above = settled_way up top t values nodes (up n) over w sound parent_is in
+    let unsettled : (node_at nodes n).settled ≡ false = st.unsettled in
+    let reached : t ≤ (node_at nodes n).known = st.reached in
+    let s = ap (step values t n) above.1 ∙ stepped_is values t n nodes above.0 unsettled (omega arith) in
+    let fits : IsValueOf (node_at nodes n) (values n) = agree n in
+    record {
+      bits = ap (λ (w : Walk). w.bits) s;
+      nodes_are = ap (λ (w : Walk). w.nodes) s;
+      reached = (let e : (walk values t nodes (n ∷ over)).known ≡ max above.0 (node_at nodes n).known = ap (λ (w : Walk). w.known) s in omega arith);
+      closed = unsettled;
+      least = (let k : (node_at nodes n).known ≤ values n = fits.known in omega arith);
+    }
+stop_way up top t values nodes _ _ (under {n} {over} lt w) sound rising agree (suc k) st =
+    let inside : suc k < suc (length over) = st.inside in
+    let above : Nothing values t nodes (up n) over = stop_way up top t values nodes (up n) over w sound rising agree k
+    (record { inside = omega arith; unsettled = st.unsettled; reached = st.reached; over = λ (more : suc k < length over). st.over (omega arith) }) in
     let known : ℕ = (walk values t nodes over).known in
     let here : (node_at nodes n).settled ≡ false = unsettled_under up top nodes n sound lt above.closed in
     let le : t ≤ known = above.reached in
@@ -182,31 +222,72 @@ past_way up top t values nodes _ _ (under {n} {over} lt w) sound rising least un
       least = omega arith;
     }
 
-pub past_nothing : (tree : Tree) (values : ℕ → ℕ) (leaf t : ℕ) → IsShape tree.wide tree.high → IsTree tree → leaf < tree.wide * tree.high →
-    ValuesOf tree values → is_past tree t ≡ true → HasNothing tree values leaf t
-past_nothing tree values leaf t shape is inside v past =
-    let top : Node = node_at tree.nodes (root tree.wide tree.high) in
-    let two = both_true (not top.settled) (nat_le t top.known) past in
-    let unsettled : top.settled ≡ false = not_true top.settled two.0 in
-    let reached : t ≤ top.known = (let e : nat_le t top.known ≡ true = two.1 in grind (arith, nat_tests)) in
-    let fits : IsValueOf top (values (root tree.wide tree.high)) = v.agree (root tree.wide tree.high) in
-    let least : t ≤ values (root tree.wide tree.high) = (let k : top.known ≤ values (root tree.wide tree.high) = fits.known in omega arith) in
-    let n : Nothing values t tree.nodes leaf (way tree.wide tree.high leaf) =
-    past_way (parent tree.wide tree.high) (root tree.wide tree.high) t values tree.nodes leaf (way tree.wide tree.high leaf) (way_is tree.wide tree.high leaf shape inside) is.sound v.are least unsettled reached in
-    let low : t ≤ values leaf = n.least in
-    record {
-      bits = n.bits;
-      after = ap (λ (l : List Node). let r : Tree = record { wide = tree.wide; high = tree.high; nodes = l } in r) n.nodes_are;
-      answer = (let no : nat_lt (values leaf) t ≡ false = grind (arith, nat_tests) in no);
-    }
-  where
-    both_true : (a b : Bool) → (a && b) ≡ true → (a ≡ true) × (b ≡ true)
-    both_true true b h = (refl, h)
-    both_true false b h = absurd (let x : false ≡ true = h in cc)
+module _ (tree : Tree) (values : ℕ → ℕ) (leaf t : ℕ) (shape : IsShape tree.wide tree.high) (is : IsTree tree) (inside : leaf < tree.wide * tree.high) (v : ValuesOf tree values) (past : IsPast tree leaf t) where
+  past_way : Nothing values t tree.nodes leaf (way tree.wide tree.high leaf)
+  past_way = stop_way (parent tree.wide tree.high) (root tree.wide tree.high) t values tree.nodes leaf (way tree.wide tree.high leaf) (way_is tree.wide tree.high leaf shape inside) is.sound v.are v.agree past.place past.stops
 
-    not_true : (a : Bool) → not a ≡ true → a ≡ false
-    not_true true h = absurd (let x : false ≡ true = h in cc)
-    not_true false h = refl
+  pub past_nothing : HasNothing tree values leaf t
+  past_nothing =
+      let low : t ≤ values leaf = past_way.least in
+      record {
+        bits = past_way.bits;
+        after = ap (λ (l : List Node). let r : Tree = record { wide = tree.wide; high = tree.high; nodes = l } in r) past_way.nodes_are;
+        answer = (let no : nat_lt (values leaf) t ≡ false = grind (arith, nat_tests) in no);
+      }
+
+  pub past_leaf : (node_at tree.nodes leaf).settled ≡ false
+  past_leaf = past_way.closed
+
+  pub past_least : t ≤ values leaf
+  past_least = past_way.least
+
+-- ---- what a query leaves as it is
+told_stays : (node : Node) (start m t : ℕ) → is_told node start t ≡ true → node_after node start m t ≡ node
+told_stays node start m t told = ap (λ (b : Bool). told_node b node start m t) told
+
+told_of : (node : Node) (known t : ℕ) → (node.settled ≡ true) ⊎ (t ≤ node.known) → is_told node (max node.known known) t ≡ true
+told_of node known t (inl s) = ap (λ (b : Bool). b || nat_le t (max node.known known)) s
+told_of node known t (inr le) = by node.settled (let e : nat_le t (max node.known known) ≡ true = grind (arith, nat_tests) in e)
+  where
+    by : (b : Bool) → nat_le t (max node.known known) ≡ true → (b || nat_le t (max node.known known)) ≡ true
+    by true e = refl
+    by false e = e
+
+-- a node that is settled, or reaches the threshold
+pub walk_keeps : (values : ℕ → ℕ) (t : ℕ) (nodes : List Node) (ways : List ℕ) (q : ℕ) → ((node_at nodes q).settled ≡ true) ⊎ (t ≤ (node_at nodes q).known) →
+    node_at (walk values t nodes ways).nodes q ≡ node_at nodes q
+walk_keeps values t nodes [] q told = refl
+walk_keeps values t nodes (n ∷ over) q told = elim (cases_eq q n) [
+  | inl same ↦
+      (let again : node_at above.nodes n ≡ node_at nodes n = subst (λ (j : ℕ). node_at above.nodes j ≡ node_at nodes j) same (walk_keeps values t nodes over q told) in
+      let told' : ((node_at above.nodes n).settled ≡ true) ⊎ (t ≤ (node_at above.nodes n).known) =
+      subst (λ (x : Node). (x.settled ≡ true) ⊎ (t ≤ x.known)) (sym again) (subst (λ (j : ℕ). ((node_at nodes j).settled ≡ true) ⊎ (t ≤ (node_at nodes j).known)) same told) in
+      ap (λ (x : Node). node_at (set above.nodes n x) q) (told_stays (node_at above.nodes n) (max (node_at above.nodes n).known above.known) (values n) t (told_of (node_at above.nodes n) above.known t told'))
+      ∙ ap (λ (l : List Node). node_at l q) (set-get_or above.nodes n unknown)
+      ∙ walk_keeps values t nodes over q told)
+  | inr ne ↦ at_other above.nodes n q (node_after (node_at above.nodes n) (max (node_at above.nodes n).known above.known) (values n) t) ne ∙ walk_keeps values t nodes over q told
+]
+  where
+    above : Walk
+    above = walk values t nodes over
+
+pub settled_stays : (tree : Tree) (values : ℕ → ℕ) (leaf t q : ℕ) → (node_at tree.nodes q).settled ≡ true → (node_at (tree_after values tree leaf t).nodes q).settled ≡ true
+settled_stays tree values leaf t q s = ap (λ (x : Node). x.settled) (walk_keeps values t tree.nodes (way tree.wide tree.high leaf) q (inl s)) ∙ s
+
+pub past_stays : (tree : Tree) (values : ℕ → ℕ) (leaf other t : ℕ) → IsPast tree leaf t → IsPast (tree_after values tree other t) leaf t
+past_stays tree values leaf other t p =
+    let at : ℕ = get_or (way tree.wide tree.high leaf) p.place 0 in
+    let up : ℕ = get_or (way tree.wide tree.high leaf) (suc p.place) 0 in
+    let same : node_at (tree_after values tree other t).nodes at ≡ node_at tree.nodes at = walk_keeps values t tree.nodes (way tree.wide tree.high other) at (inr p.stops.reached) in
+    record {
+      place = p.place;
+      stops = record {
+        inside = p.stops.inside;
+        unsettled = ap (λ (x : Node). x.settled) same ∙ p.stops.unsettled;
+        reached = subst (λ (x : Node). t ≤ x.known) (sym same) p.stops.reached;
+        over = λ lt. settled_stays tree values other t up (p.stops.over lt);
+      };
+    }
 
 -- ---- some queries
 pub all_one : (tree : Tree) (values others : ℕ → ℕ) (qs : List Question) (rest behind : List Bool) → IsShape tree.wide tree.high → IsTree tree →

@@ -210,7 +210,7 @@ Rising up top values = (q : ℕ) → q < top → values (up q) ≤ values q
 pub at_same : (nodes : List Node) (n : ℕ) (x : Node) → n < length nodes → node_at (set nodes n x) n ≡ x
 at_same nodes n x lt = get_or-set_same nodes n x unknown lt
 
-at_other : (nodes : List Node) (n q : ℕ) (x : Node) → q ≢ n → node_at (set nodes n x) q ≡ node_at nodes q
+pub at_other : (nodes : List Node) (n q : ℕ) (x : Node) → q ≢ n → node_at (set nodes n x) q ≡ node_at nodes q
 at_other nodes n q x ne = get_or-set_other nodes n q x unknown ne
 
 -- a fact of each node is kept where it holds of the one that is written

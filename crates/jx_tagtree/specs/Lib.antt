@@ -3,6 +3,7 @@ pub mod Shape
 pub mod TagTree
 pub mod Leaves
 pub mod Questions
+pub mod Past
 pub mod Scan
 -- Inner: no other crate cites these.
 pub mod Place

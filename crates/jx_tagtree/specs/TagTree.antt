@@ -1,6 +1,6 @@
 -- Tag trees (ITU-T T.800, B.10.2): what a query at a leaf reads or writes, from the values of the nodes and from what is
 -- known of them.
-use Rattle.std.specs.Prelude.{◌≡◌, ℕ, ◌+◌, ◌-◌, ◌<◌, ◌≤◌, min, max, nat_lt, nat_le, Bool, true, false, not, ◌&&◌, ◌||◌, List, [], ◌∷◌, ◌++◌, length, replicate, slice_set, slice_index_or, if◌then◌else◌}
+use Rattle.std.specs.Prelude.{◌≡◌, ℕ, ◌+◌, ◌-◌, ◌<◌, ◌≤◌, min, max, nat_lt, nat_le, Bool, true, false, ◌||◌, List, [], ◌∷◌, ◌++◌, length, replicate, slice_set, slice_index_or, if◌then◌else◌}
 use Rattle.jx_tagtree.specs.declared.node.Node.{Node}
 use Rattle.jx_tagtree.specs.Header.{Reading, to_come, advance}
 use Rattle.jx_tagtree.specs.Shape.{root, parent, way}
@@ -67,12 +67,6 @@ query values tree leaf threshold = walk values threshold tree.nodes (way tree.wi
 -- the tree after it
 abbrev pub tree_after : (ℕ → ℕ) → Tree → ℕ → ℕ → Tree
 tree_after values tree leaf threshold = record tree { nodes = (query values tree leaf threshold).nodes }
-
--- What is known of the root reaches a threshold, and it isn't settled: then no query with this threshold has bits.
-abbrev pub is_past : Tree → ℕ → Bool
-is_past tree threshold =
-    let top = node_at tree.nodes (root tree.wide tree.high) in
-    not top.settled && nat_le threshold top.known
 
 -- values of the nodes, each at least its parent's
 abbrev pub AreValues : ℕ → ℕ → (ℕ → ℕ) → Type 0

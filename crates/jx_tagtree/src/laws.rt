@@ -3,7 +3,8 @@
 ghost use Rattle.std.specs.Prelude.{◌≡◌, ◌*◌, ◌<◌, ◌≤◌, ◌++◌, Bool, List, ℕ, length, slice_index, true, Ok};
 ghost use Rattle.jx_tagtree.specs.Header.{IsHeader, StuffedAfterFf, ReadsBack, EndsAt, bits_of, bytes_of, end_after};
 ghost use Rattle.jx_tagtree.specs.Shape.{IsShape, root};
-ghost use Rattle.jx_tagtree.specs.TagTree.{Tree, fresh, tree_after, is_past, AreValues, ValuesOf, IsTree, HasNothing};
+ghost use Rattle.jx_tagtree.specs.TagTree.{Tree, fresh, tree_after, AreValues, ValuesOf, IsTree, HasNothing};
+ghost use Rattle.jx_tagtree.specs.Past.{IsPast};
 ghost use Rattle.jx_tagtree.specs.Leaves.{least_leaf, AreLeaves, IsLeast};
 ghost use Rattle.jx_tagtree.specs.Questions.{Question, all_bits, AreAtLeaves, OneReading, AreReadBack};
 
@@ -42,11 +43,12 @@ pub fn nothing_known()
     ensures values { (wide high : ℕ) (values : ℕ → ℕ) → IsShape wide high → AreValues wide high values → ValuesOf (fresh wide high) values }
 {}
 
-/// Where what is known of the root reaches a threshold, a query with it at any leaf has no bits, tells
-/// nothing, and no leaf's value is below it.
+/// A query of a leaf that is past its threshold has no bits, tells nothing, and the leaf's value isn't below
+/// it. The leaf is still past it after any query with the same threshold.
 pub fn past_reads_nothing()
-    ensures { (tree : Tree) (values : ℕ → ℕ) (leaf threshold : ℕ) → IsShape tree.wide tree.high → IsTree tree → leaf < tree.wide * tree.high →
-        ValuesOf tree values → is_past tree threshold ≡ true → HasNothing tree values leaf threshold }
+    ensures nothing { (tree : Tree) (values : ℕ → ℕ) (leaf threshold : ℕ) → IsShape tree.wide tree.high → IsTree tree → leaf < tree.wide * tree.high →
+        ValuesOf tree values → IsPast tree leaf threshold → HasNothing tree values leaf threshold }
+    ensures still { (tree : Tree) (values : ℕ → ℕ) (leaf other threshold : ℕ) → IsPast tree leaf threshold → IsPast (tree_after values tree other threshold) leaf threshold }
 {}
 
 /// What is known of a tree is that of some values.

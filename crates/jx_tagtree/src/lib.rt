@@ -3,6 +3,7 @@
 
 pub mod laws;
 pub(crate) mod node;
+mod passing;
 mod reader;
 mod reading;
 mod shape;

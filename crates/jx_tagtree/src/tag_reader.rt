@@ -1,11 +1,13 @@
 //! A tag tree that is read.
 
-ghost use Rattle.std.specs.Prelude.{◌≡◌, ◌*◌, ◌<◌, ◌≤◌, ◌++◌, ℕ, Bool, List, length, Ok, OnOk, IfOk, IfErr};
+ghost use Rattle.std.specs.Prelude.{◌≡◌, ◌*◌, ◌<◌, ◌≤◌, ◌++◌, ℕ, Bool, List, length, Ok, OnOk, IfOk, IfErr, IfSome};
 ghost use Rattle.jx_tagtree.specs.Header.{Took, to_come, fault_of, exhausted};
 ghost use Rattle.jx_tagtree.specs.Shape.{IsShape};
-ghost use Rattle.jx_tagtree.specs.TagTree.{Tree, fresh, query, is_past, ValuesOf, IsTree, HasRead};
+ghost use Rattle.jx_tagtree.specs.TagTree.{Tree, fresh, query, ValuesOf, IsTree, HasRead};
+ghost use Rattle.jx_tagtree.specs.Past.{IsPast, AreUnder};
 
 use crate::node::{Node, unknown_nodes};
+use crate::passing::stop_of;
 use crate::reading::read_way;
 use crate::shape::{Level, Way, count_nodes, table};
 use crate::{BitFault, BitReader};
@@ -81,12 +83,29 @@ impl TagReader {
         Ok(below)
     }
 
-    /// Whether no leaf's value is below a threshold by what is known of the root: then no query with this
-    /// threshold reads a bit.
-    pub fn is_past(&self, threshold: u32) -> bool
-        ensures { result ≡ is_past self.now threshold }
+    /// How many leaves stand side by side.
+    pub fn wide(&self) -> u32
+        ensures { result ≡ self.now.wide }
     {
-        let root = self.nodes[self.nodes.len() - 1];
-        !root.settled && threshold <= root.known
+        self.wide
+    }
+
+    /// How many stand one above another.
+    pub fn high(&self) -> u32
+        ensures { result ≡ self.now.high }
+    {
+        self.high
+    }
+
+    /// The place on a leaf's way, 0 for the leaf and 22 at most for the root, of a node that isn't settled and
+    /// whose value is known to reach a threshold: no query with it has a bit of any leaf under that node.
+    /// None where a query of the leaf may have bits, or its node is settled.
+    pub fn past(&self, leaf: u32, threshold: u32) -> Option<usize>
+        requires { leaf < self.now.wide * self.now.high }
+        ensures low { IfSome result (λ place. place ≤ 22) }
+        ensures under { IfSome result (λ place. (other : ℕ) → other < self.now.wide * self.now.high → AreUnder self.now.wide place leaf other → IsPast self.now other threshold) }
+    {
+        let way = Way::new(&self.levels, self.wide, self.high, leaf);
+        stop_of(&self.nodes, &way, threshold)
     }
 }

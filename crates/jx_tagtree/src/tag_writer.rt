@@ -1,12 +1,14 @@
 //! A tag tree that is written.
 
-ghost use Rattle.std.specs.Prelude.{◌≡◌, ◌*◌, ◌<◌, ◌≤◌, ◌++◌, ◌-◌, ◌^◌, replicate, length, OnOk, IfOk};
+ghost use Rattle.std.specs.Prelude.{◌≡◌, ◌*◌, ◌<◌, ◌≤◌, ◌++◌, ◌-◌, ◌^◌, replicate, length, ℕ, OnOk, IfOk, IfSome};
 ghost use Rattle.jx_tagtree.specs.Shape.{IsShape, levels_of};
 ghost use Rattle.jx_tagtree.specs.Leaves.{Written, untold, told, told_after};
 ghost use Rattle.jx_tagtree.specs.KeptLeaves.{AreNodeValues};
+ghost use Rattle.jx_tagtree.specs.Past.{IsPast, AreUnder};
 
 use crate::BitWriter;
 use crate::node::{Node, unknown_nodes};
+use crate::passing::stop_of;
 use crate::shape::{Level, Way, count_nodes, table};
 use crate::writing::{lower, write_way};
 use jx_base::NoMemory;
@@ -64,6 +66,31 @@ impl TagWriter {
         let way = Way::new(&self.levels, self.wide, self.high, leaf);
         write_way(&mut self.nodes, &self.values, &way, threshold, bits)?;
         Ok(())
+    }
+
+    /// How many leaves stand side by side.
+    pub fn wide(&self) -> u32
+        ensures { result ≡ self.now.tree.wide }
+    {
+        self.wide
+    }
+
+    /// How many stand one above another.
+    pub fn high(&self) -> u32
+        ensures { result ≡ self.now.tree.high }
+    {
+        self.high
+    }
+
+    /// The place on a leaf's way of a node that isn't settled and of which was told that its value reaches a
+    /// threshold, as `past` of `TagReader` gives it.
+    pub fn past(&self, leaf: u32, threshold: u32) -> Option<usize>
+        requires { leaf < self.now.tree.wide * self.now.tree.high }
+        ensures low { IfSome result (λ place. place ≤ 22) }
+        ensures under { IfSome result (λ place. (other : ℕ) → other < self.now.tree.wide * self.now.tree.high → AreUnder self.now.tree.wide place leaf other → IsPast self.now.tree other threshold) }
+    {
+        let way = Way::new(&self.levels, self.wide, self.high, leaf);
+        stop_of(&self.nodes, &way, threshold)
     }
 }
 
