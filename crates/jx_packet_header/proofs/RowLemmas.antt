@@ -89,7 +89,7 @@ module _ (style layer base down wide : ℕ) (begun : List HeaderPart) (start : C
     (row : IsRow style layer base down wide begun start from across next cells parts bits) (down_lt : down < start.first.high) (across_lt : across < wide)
     (t : Told) (was : scan_block style layer (base + (down * wide + across)) (down * wide + across) cells bits ≡ Ok t) (small : length bits ≤ 2 ^ 67)
     (place : ℕ) (facts : (other : ℕ) → other < length t.cells.blocks → other ≢ down * wide + across →
-        AreUnder t.cells.first.wide place (down * wide + across) other → IsSilent layer t.cells other) where
+    AreUnder t.cells.first.wide place (down * wide + across) other → IsSilent layer t.cells other) where
   abbrev leaf : ℕ
   leaf = down * wide + across
 

@@ -42,11 +42,11 @@ ghost use Rattle.jx_tier2_writer.specs.TileParts.{AreTilePartsOf, IsOutput};
 ghost use Rattle.jx_base.specs.Limits.{most_bytes};
 
 use jx_codeblock::laws::first_layers_are_final;
-use jx_plan::layer_laws::{breaks_are_told, jobs_have_these_ends};
 use jx_plan::laws::{
     meaning_stays, parameters_stay, written_blocks_stand, written_headers_are_plain,
     written_headers_stand,
 };
+use jx_plan::layer_laws::{breaks_are_told, jobs_have_these_ends};
 
 /// A written file spells the stream of the headers that it was written from, with its tile-parts' own headers, places and data: no
 /// rule from 1 to 24 is violated, and neither limit 3 nor 4 is passed (T.800, A.2 to A.6).

@@ -34,8 +34,8 @@ use jx_generate::laws::{
     made_blocks_are_plain, made_geometry, made_in_one_layer, made_is_short, made_is_well_formed,
 };
 use jx_jp2::laws::{one_codestream, one_tree, some_codestream, some_tree};
-use jx_plan::layer_laws::{blocks_are_written, jobs_have_these_ends};
 use jx_plan::laws::{gathered_may_be_planned, kept_precincts_fit, one_answer};
+use jx_plan::layer_laws::{blocks_are_written, jobs_have_these_ends};
 use jx_reduce::laws::{left_means, whole_stays};
 use jx_tier2_reader::laws::{never_both, one_gathering, one_of_both, one_violation};
 use jx_tier2_writer::laws::{one_output, written_is_ready};
