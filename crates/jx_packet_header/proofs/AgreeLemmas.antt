@@ -14,13 +14,13 @@ use Rattle.jx_packet_header.specs.declared.LeafPart.{LeafPart}
 use Rattle.jx_packet_header.specs.declared.BandCells.{BandCells}
 use Rattle.jx_packet_header.specs.declared.known.Known.{Known}
 use Rattle.jx_packet_header.specs.Packet.{Cells, State, Values, Agree, Entry, unknown_block, block_at, block_after, zero_planes, cells_first, cells_included, entry_after, IsEntry, AreEntries, blocks_after, parts_told, BandTold, IsBandTold, band_after, AreBandsTold, bands_after, bands_parts, header_after, header_parts, IsToldOf, IsPacket}
-use Rattle.jx_packet_header.specs.Kept.{AreTrees, IsKnown, IsBand, AreBands}
+use Rattle.jx_packet_header.specs.Kept.{AreTrees, IsKnown, AreSettled, IsBand, AreBands}
 use Rattle.jx_packet_header.specs.Precinct.{cells_in, CellsInRange, IsBandCells, AreBandCells, fresh_cells, fresh_bands, all_blocks, IsState}
 use Rattle.jx_packet_header.specs.Written.{Leafed, first_layer, zero_leaf, first_leaves, zero_leaves, parts_in, passes_of, entry_written, entries_written, values_written, band_written, bands_written, header_written, some_in, state_at, Plan, state_of, next_header}
 use Rattle.jx_packet_header.specs.Writable.{no_leaf, leaf_at, SameSize}
 use Rattle.jx_packet_header.specs.LeavesFit.{LeavesFit, FitsLeaf, FitBand, FitBands, AllShort, InTypes, parts_at, header_at, IsPlan}
 use Rattle.jx_packet_header.specs.ReadBack.{IsOneReading}
-use Rattle.jx_packet_header.proofs.BandLemmas.{block_of, entry_agrees, entry_size, entry_kept}
+use Rattle.jx_packet_header.proofs.BandLemmas.{block_of, entry_agrees, entry_size, entry_kept, entries_settled}
 use Rattle.jx_packet_header.proofs.FreshLemmas.{fresh_is, unknown_at, some_cells}
 use Rattle.jx_packet_header.proofs.PacketLemmas.{stands_there, one_header}
 use Rattle.jx_packet_header.proofs.WriteLemmas.{entry_next, entries_end, behind_same, other_same, no_size}
@@ -146,6 +146,7 @@ pub record IsBandAt (style layers layer base : ℕ) (cells : Cells) (leaves : Li
   pub planes : cells.planes ≤ 255
   pub all : length leaves ≡ length cells.blocks
   pub agree : Agree cells (values_written layers cells leaves)
+  pub settled : AreSettled cells
   pub fits : (i : ℕ) → i < length leaves → IsFit style layers cells.planes (base + i) (leaf_at leaves i)
   pub told : (i : ℕ) → i < length leaves → IsTold layer (block_at cells i) (leaf_at leaves i)
 
@@ -220,6 +221,7 @@ band_agrees style layers layer base cells leaves few small b =
         planes = subst (λ (n : ℕ). n ≤ 255) (sym r.size.planes) b.planes;
         all = r.going.all;
         agree = subst (λ (u : Values). Agree after u) (same_written layers after cells leaves r.size) r.going.agree;
+        settled = entries_settled v style layer base (length leaves) 0 cells (entries_written layer cells.blocks leaves) b.trees b.agree b.settled b.all r.are;
         fits = r.going.fits;
         told = r.going.done;
       };
@@ -298,6 +300,7 @@ band_still style layers layer base cells leaves e b = (
     planes = b.planes;
     all = b.all;
     agree = b.agree;
+    settled = b.settled;
     fits = b.fits;
     told = λ i lt. told_still style layers layer cells.planes (base + i) (block_at cells i) (leaf_at leaves i) (some_none layer leaves i e) (b.fits i lt) (b.told i lt);
   },
@@ -379,6 +382,7 @@ fresh_band_at style layers base b leaves is lt few all f s =
         in_first = fresh_values b.wide b.high (least_leaf b.wide b.high (first_leaves layers leaves)) (least_are_values b.wide b.high (first_leaves layers leaves) shape (length-map leaves first ∙ all));
         in_zeros = fresh_values b.wide b.high (least_leaf b.wide b.high (zero_leaves b.planes leaves)) (least_are_values b.wide b.high (zero_leaves b.planes leaves) shape (length-map leaves zeros ∙ all));
       };
+      settled = (fresh_is b is lt few).settled;
       fits = fits_at style layers b.planes base leaves f s;
       told = λ i lt'. subst (λ (k : Known). IsTold 0 k (leaf_at leaves i)) (sym (unknown_at (b.wide * b.high) i)) (nothing_told (leaf_at leaves i));
     }
@@ -430,6 +434,7 @@ band_read style layers layer base cells leaves b = record {
     | inl lt ↦ told_known style layers layer cells.planes (base + i) (block_at cells i) (leaf_at leaves i) b.planes (b.fits i lt) (b.told i lt)
     | inr ge ↦ subst IsKnown (sym (get_or_past cells.blocks i unknown_block (let e : length leaves ≡ length cells.blocks = b.all in omega arith))) (record { passes = omega arith; lblock = omega arith })
   ];
+  settled = b.settled;
 }
 
 bands_read : (style layers layer base : ℕ) (bands : List Cells) (leaves : List Leafed) → AreBandsAt style layers layer base bands leaves → AreBands bands × (length (all_blocks bands) ≡ length leaves)

@@ -852,6 +852,16 @@ blocks_agree v style layer base stop leaf cells (e ∷ es) t a all are =
     let k = entry_kept v style layer (base + leaf) leaf cells e t lt a are.1 in
     blocks_agree v style layer base stop (leaf + 1) (entry_after v layer leaf cells e) es k.trees (entry_agrees v layer leaf cells e (block_of cells leaf t lt) a) (all ∙ sym k.long) are.2
 
+-- what was included is settled after all blocks
+pub entries_settled : (v : Values) (style layer base stop leaf : ℕ) (cells : Cells) (es : List Entry) → AreTrees cells → Agree cells v → AreSettled cells → stop ≡ length cells.blocks →
+    AreEntries v style layer base stop leaf cells es → AreSettled (blocks_after v layer leaf cells es)
+entries_settled v style layer base stop leaf cells [] t a s all are = s
+entries_settled v style layer base stop leaf cells (e ∷ es) t a s all are =
+    let lt : leaf < length cells.blocks = subst (λ (n : ℕ). leaf < n) all are.0 in
+    let k = entry_kept v style layer (base + leaf) leaf cells e t lt a are.1 in
+    entries_settled v style layer base stop (leaf + 1) (entry_after v layer leaf cells e) es k.trees (entry_agrees v layer leaf cells e (block_of cells leaf t lt) a)
+    (entry_settled v style layer (base + leaf) leaf cells e (block_of cells leaf t lt).in_first a.in_first s are.1) (all ∙ sym k.long) are.2
+
 pub bands_agree : (style layer base : ℕ) (bands : List Cells) (tolds : List BandTold) → AreAllTrees bands → AreBandsTold style layer base bands tolds → AgreeAfter layer bands tolds
 bands_agree style layer base [] [] t are = tt
 bands_agree style layer base [] (told ∷ tolds) t are = absurd are
