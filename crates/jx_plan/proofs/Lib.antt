@@ -1,12 +1,12 @@
 mod SentLemmas
 mod LeftLemmas
 mod JobLemmas
-pub mod OneLemmas
+mod OneLemmas
 mod CrowdLemmas
 mod LayerLemmas
 mod BlocksByRule
 mod LowestLemmas
-pub mod FactLemmas
+mod FactLemmas
 pub mod CausalLemmas
 mod AlikeLemmas
 mod WrittenLemmas

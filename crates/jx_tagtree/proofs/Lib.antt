@@ -7,4 +7,4 @@ pub mod WayLemmas
 pub mod TagLemmas
 pub mod LeafLemmas
 pub mod QuestionLemmas
-pub mod PastLemmas
+mod PastLemmas
