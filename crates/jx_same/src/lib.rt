@@ -4,6 +4,7 @@
 mod answer;
 mod bands;
 mod blocks;
+mod cells;
 mod changes;
 mod decoded;
 mod headers;
