@@ -65,7 +65,6 @@ pub(crate) fn compare_between<'a>(
 }
 
 /// The index of the code-block of a row and a column; that behind the row's last is the next row's first.
-#[tactic(auto, using(crate::proofs::RowLemmas::row_in))]
 fn index_in(walk: Walk, row: u32, column: u32) -> u32
     requires count { walk.count ≡ walk.wide * walk.high }
     requires row { row < walk.high }
@@ -73,7 +72,8 @@ fn index_in(walk: Walk, row: u32, column: u32) -> u32
     ensures value { result ≡ row * walk.wide + column }
     ensures within { result ≤ walk.count }
 {
-    row * walk.wide + column
+    let first = row * walk.wide;
+    first + column
 }
 
 /// The first row of a patch of which coefficients differ, with the first place of the patch in that row.
@@ -134,13 +134,13 @@ fn best_after<'a>(
         left: rows.left,
         right: rows.right,
     };
-    let Some(hit) = compare_patch(alloc, a, b, shelf, name, walk, patch)? else {
-        return Ok(best);
-    };
-    Ok(Best {
-        end: hit.row,
-        found: Some(hit.spot),
-    })
+    if let Some(hit) = compare_patch(alloc, a, b, shelf, name, walk, patch)? {
+        return Ok(Best {
+            end: hit.row,
+            found: Some(hit.spot),
+        });
+    }
+    Ok(best)
 }
 
 /// Where the cell ends that has a column or a row, counted from `first` on; the band's end if the cell goes on behind it.
@@ -150,8 +150,9 @@ pub(crate) fn cell_end(first: u32, at: u32, size: u32, end: u32) -> u32
     ensures above { at < result }
     ensures within { result ≤ end }
 {
-    let behind = size - first.wrapping_add(at) % size;
-    at.saturating_add(behind).min(end)
+    let before = first.wrapping_add(at) % size;
+    let rest = size - before;
+    at.saturating_add(rest).min(end)
 }
 
 /// The first place of the rows of a row of cells of which the coefficients differ.
@@ -209,7 +210,6 @@ pub(crate) fn compare_rows(
     requires aligned { AreAligned a.now b.now name.comp }
     requires band { HasBandOf a.now name }
     requires walk { IsWalk (blocks_in (geometry_at a.now) name.comp name.res name.band) walk }
-    requires low { low ≤ high }
     requires high { high ≤ walk.high }
     ensures { IfOk result (λ found. found ≡ find (differs (meaning_at a.now) (meaning_at b.now))
         (joined (row_items (block_items (geometry_at a.now) name.comp name.res name.band) walk.wide 0 walk.wide) low high)) }

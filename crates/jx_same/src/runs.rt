@@ -60,7 +60,6 @@ fn compare_run(
     requires aligned { AreAligned a.now b.now name.comp }
     requires band { HasBandOf a.now name }
     requires walk { IsWalk (blocks_in (geometry_at a.now) name.comp name.res name.band) walk }
-    requires low { low ≤ high }
     requires high { high ≤ unit_count walk.by_rows walk }
     ensures { IfOk result (λ found. found ≡ find (differs (meaning_at a.now) (meaning_at b.now))
         (joined (unit_items walk.by_rows (block_items (geometry_at a.now) name.comp name.res name.band) walk.wide) low high)) }
@@ -243,13 +242,13 @@ pub(crate) fn compare_blocks<R: Threads + Sync>(
 {
     let walk = a.walk(name, b);
     let units = unit_count(walk);
-    let threads = workers(a, name, walk, threads);
-    if threads == 1 {
+    let hands = workers(a, name, walk, threads);
+    if hands == 1 {
         return compare_run(alloc, a, b, name, walk, 0, units);
     }
     let mut low = 0;
     while low < units {
-        let cut = next_cut(walk, low, threads);
+        let cut = next_cut(walk, low, hands);
         if let Some(spot) = compare_runs(rt, alloc, a, b, name, walk, cut)? {
             return Ok(Some(spot));
         }

@@ -290,14 +290,17 @@ impl<'a> Side<'a> {
     {
         let (_, _, geom) = self.frame.parts();
         let blocks = geom.cells(name.comp, name.res, name.band);
+        let wide = blocks.x.len();
+        let high = blocks.y.len();
+        let area = blocks.area();
         let own = self.in_cells(name, other);
         let (wider, higher) = other.exponents(name);
         Walk {
             left: blocks.x.low,
             top: blocks.y.low,
-            wide: blocks.x.len(),
-            high: blocks.y.len(),
-            count: blocks.area() as u32,
+            wide,
+            high,
+            count: area as u32,
             columns: own.columns,
             rows: own.rows,
             by_rows: own.rows > 1,

@@ -1,4 +1,4 @@
-use Rattle.std.proofs.Common.{◌∙◌, ◌≤◌, arith, sym}
+use Rattle.std.proofs.Common.{◌∙◌, ◌≤◌, ℕ, arith, subst, sym}
 use Rattle.jx_same.specs.Items.{block_items, differs}
 use Rattle.jx_same.specs.Runs.{row_items}
 use Rattle.jx_same.specs.Sides.{geometry_at, meaning_at}
@@ -14,6 +14,9 @@ loop-row-init c =
       shelf = c.requires.shelf;
       none = from_begins (differs (meaning_at c.args.a.now) (meaning_at c.args.b.now)) (row_items f c.args.walk.wide c.args.patch.left c.args.patch.right) c.args.patch.low c.args.patch.low (omega arith);
     }
+
+pub compare_between-requires-clause-high : goal.compare_between-requires-clause-high
+compare_between-requires-clause-high c = subst (λ (k : ℕ). c.index_in-behind.result ≤ k) c.requires.walk.all c.index_in-behind.ensures.within
 
 pub returns-in-Some-clause-first : goal.returns-in-Some-clause-first
 returns-in-Some-clause-first c =

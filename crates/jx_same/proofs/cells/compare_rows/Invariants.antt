@@ -9,7 +9,7 @@ use Rattle.jx_same.proofs.cells.compare_rows.Given as goal
 abbrev pub invariant-loop-row : goal.invariant-loop-row
 invariant-loop-row l = record {
   from : l.low ≤ l.row;
-  within : l.row ≤ l.high;
+  within : l.low ≤ l.high → l.row ≤ l.high;
   none : find (differs (meaning_at l.a) (meaning_at l.b))
       (joined (row_items (block_items (geometry_at l.a) l.name.comp l.name.res l.name.band) l.walk.wide 0 l.walk.wide) l.low l.row) ≡ None;
 }

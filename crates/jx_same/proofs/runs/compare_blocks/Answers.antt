@@ -12,11 +12,11 @@ use Rattle.jx_same.proofs.RowLemmas.{units_whole}
 use Rattle.jx_same.proofs.RunLemmas.{round_goes, round_stops}
 use Rattle.jx_same.proofs.runs.compare_blocks.Goals as goal
 
-pub walk-requires-clause-other : goal.walk-requires-clause-other
-walk-requires-clause-other g c = aligned_has c.args.a.now c.args.b.now c.args.name c.requires.aligned c.requires.band
+pub walk-walk-requires-clause-other : goal.walk-walk-requires-clause-other
+walk-walk-requires-clause-other g c = aligned_has c.args.a.now c.args.b.now c.args.name c.requires.aligned c.requires.band
 
-pub returns-then-threads : goal.returns-then-threads
-returns-then-threads g c =
+pub returns-then-hands-eq1 : goal.returns-then-hands-eq1
+returns-then-hands-eq1 g c =
     let n = c.args.name in
     let p = differs (meaning_at c.args.a.now) (meaning_at c.args.b.now) in
     let f = block_items (geometry_at c.args.a.now) n.comp n.res n.band in
