@@ -49,7 +49,7 @@ compare_tile-requires-clause-before g c κs held =
 pub compare_tile-requires-clause-changed : goal.compare_tile-requires-clause-changed
 compare_tile-requires-clause-changed g c κs held =
     λ k is. headers_beside (λ (s t : Stream) (n : ℕ). IsUnchanged s t n k) c.args.a c.args.b c.in_ok-side_a.side_a c.in_ok-side_b.side_b c.loop-tile.tile c.in_ok-side_a.ensures c.in_ok-side_b.ensures
-    (c.in_ok-changed.ensures k (rw c.deref.ensures.value is))
+    (c.in_ok-changed.ensures k (rw (← c.deref.ensures.value) is))
 
 pub returns-in-Some : goal.returns-in-Some
 returns-in-Some g c =
