@@ -118,7 +118,7 @@ best_ends p f wide left low high b e h =
 
 -- ---- all rows together
 rows_below : {X : Type 0} (f : ℕ → List X) (wide n : ℕ) → joined (row_items f wide 0 wide) 0 n ≡ joined f 0 (n * wide)
-rows_below {X} f wide zero = joined_none (row_items f wide 0 wide) 0 0 (omega arith) ∙ sym (joined_none f 0 0 (omega arith))
+rows_below {X} f wide zero = joined_none (row_items f wide 0 wide) 0 0 (omega arith) ∙ sym (joined_none f 0 (0 * wide) (omega arith))
 rows_below {X} f wide (suc n) =
     let next : joined (row_items f wide 0 wide) 0 (n + 1) ≡ joined (row_items f wide 0 wide) 0 n ++ joined f (n * wide + 0) (n * wide + wide) = joined_next (row_items f wide 0 wide) 0 n (omega arith) in
     let next' : joined (row_items f wide 0 wide) 0 (suc n) ≡ joined (row_items f wide 0 wide) 0 n ++ joined f (n * wide + 0) (n * wide + wide) = rw add-one at next in

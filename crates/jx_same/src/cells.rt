@@ -143,6 +143,14 @@ fn best_after<'a>(
     Ok(best)
 }
 
+/// How far it is from a number to the next multiple of a size.
+fn up_to_next(number: u32, size: u32) -> u32
+    requires { 0 < size }
+    ensures { 0 < result }
+{
+    size - number % size
+}
+
 /// Where the cell ends that has a column or a row, counted from `first` on; the band's end if the cell goes on behind it.
 pub(crate) fn cell_end(first: u32, at: u32, size: u32, end: u32) -> u32
     requires at { at < end }
@@ -150,8 +158,7 @@ pub(crate) fn cell_end(first: u32, at: u32, size: u32, end: u32) -> u32
     ensures above { at < result }
     ensures within { result ≤ end }
 {
-    let before = first.wrapping_add(at) % size;
-    let rest = size - before;
+    let rest = up_to_next(first.wrapping_add(at), size);
     at.saturating_add(rest).min(end)
 }
 

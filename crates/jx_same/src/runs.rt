@@ -214,7 +214,7 @@ fn cut_rows(walk: Walk, low: u32, threads: u32) -> Cut
     let next = cell_end(walk.top, low, walk.rows, walk.high);
     let mut taken = next - low;
     if taken >= walk.rows {
-        taken = walk.rows.saturating_mul(threads).min(walk.high - low);
+        taken = walk.rows.saturating_mul(threads).max(taken).min(walk.high - low);
     }
     Cut {
         low,
