@@ -11,7 +11,7 @@ use Rattle.jx_same.specs.declared.answer.Spot.{Spot}
 use Rattle.jx_same.specs.declared.cells.Best.{Best}
 use Rattle.jx_same.specs.declared.cells.Hit.{Hit}
 use Rattle.jx_same.specs.declared.side.Walk.{Walk}
-use Rattle.jx_same.specs.Runs.{FirstRow, IsBest, IsFirstRow, IsFoundAt, IsWalk, row_items, unit_count, unit_items}
+use Rattle.jx_same.specs.Runs.{FirstRow, IsBest, IsFoundAt, IsWalk, row_items, unit_count, unit_items}
 use Rattle.jx_same.proofs.FindLemmas.{before, behind, from_begins, from_goes, from_stops, none_left, none_right}
 use Rattle.jx_same.proofs.RunLemmas.{joined_split}
 

@@ -1,9 +1,8 @@
 -- Code-blocks without a pass.
-use Rattle.std.proofs.Common.{◌≡◌, ◌∙◌, ℕ, ◌+◌, ◌-◌, ◌*◌, ◌<◌, ◌≤◌, ◌==◌, List, inl, inr, ap, sym, refl, arith, length, replicate, get_or, Bool, true, false, if◌then◌else◌, None}
+use Rattle.std.proofs.Common.{◌≡◌, ◌∙◌, ℕ, ◌+◌, ◌-◌, ◌*◌, ◌==◌, inl, inr, ap, sym, refl, arith, length, replicate, true, if◌then◌else◌, None}
 use Rattle.std.specs.List.{find}
 use Rattle.std.proofs.lemmas.Bool.{cases_lt}
 use Rattle.std.proofs.lemmas.List.{get_or-replicate, get_or_past, length-replicate}
-use Rattle.jx_base.specs.declared.names.Rect.{Rect}
 use Rattle.jx_base.specs.declared.pieces.Block.{Block}
 use Rattle.jx_base.proofs.Raster.{raster_in}
 use Rattle.jx_base.specs.Places.{InRect, column_at, length_of, row_at, size_of}

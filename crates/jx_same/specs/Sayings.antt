@@ -1,6 +1,6 @@
 -- What the segments of a header say of components, as far as two codestreams are compared by it (A.6): decomposition levels, wavelet,
 -- component transform, quantization and the shift of a region of interest, each with the slot of its segment.
-use Rattle.std.specs.Prelude.{ℕ, ◌≡◌, ◌<◌, ◌+◌, ◌-◌, ◌*◌, ◌==◌, Bool, true, false, List, map, Option, None, Some}
+use Rattle.std.specs.Prelude.{ℕ, ◌≡◌, ◌<◌, ◌+◌, ◌-◌, ◌*◌, Bool, true, false, List, map, Option, Some}
 use Rattle.std.specs.List.{filter}
 use Rattle.std.specs.Option.{option_map}
 use Rattle.jx_marker.specs.declared.Quant.{Quant}

@@ -131,7 +131,7 @@ fn compare_runs<R: Threads + Sync>(
             requires high { cut.high ≤ unit_count walk.by_rows walk }
             ensures { IfOk result (λ found. found ≡ find (differs (meaning_at a.entry.now) (meaning_at b.entry.now))
                 (joined (unit_items walk.by_rows (block_items (geometry_at a.entry.now) name.comp name.res name.band) walk.wide)
-                    (cut_at cut.low cut.size cut.high run) (cut_at cut.low cut.size cut.high (run + 1)))) }
+                (cut_at cut.low cut.size cut.high run) (cut_at cut.low cut.size cut.high (run + 1)))) }
         {
             // It is asked for in the contract alone.
             let _ = &cut.runs;
@@ -214,7 +214,11 @@ fn cut_rows(walk: Walk, low: u32, threads: u32) -> Cut
     let next = cell_end(walk.top, low, walk.rows, walk.high);
     let mut taken = next - low;
     if taken >= walk.rows {
-        taken = walk.rows.saturating_mul(threads).max(taken).min(walk.high - low);
+        taken = walk
+            .rows
+            .saturating_mul(threads)
+            .max(taken)
+            .min(walk.high - low);
     }
     Cut {
         low,

@@ -1,4 +1,4 @@
-use Rattle.std.proofs.Common.{◌∙◌, ◌≤◌, ℕ, arith, subst, sym}
+use Rattle.std.proofs.Common.{◌≤◌, ℕ, arith, subst}
 use Rattle.jx_same.specs.Items.{block_items, differs}
 use Rattle.jx_same.specs.Runs.{row_items}
 use Rattle.jx_same.specs.Sides.{geometry_at, meaning_at}

@@ -1,10 +1,5 @@
 use Rattle.std.proofs.Common.{◌≤◌, ℕ, Bool, subst}
-use Rattle.std.specs.List.{find}
-use Rattle.std.specs.Prelude.{IfOk}
-use Rattle.jx_base.specs.Joined.{joined}
-use Rattle.jx_same.specs.Items.{block_items, differs}
-use Rattle.jx_same.specs.Runs.{unit_count, unit_items}
-use Rattle.jx_same.specs.Sides.{geometry_at, meaning_at}
+use Rattle.jx_same.specs.Runs.{unit_count}
 use Rattle.jx_same.proofs.BlockLemmas.{aligned_has, none_on_shelf}
 use Rattle.jx_same.proofs.runs.compare_run.Goals as goal
 
