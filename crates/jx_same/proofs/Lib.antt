@@ -3,6 +3,7 @@ mod CellLemmas
 mod FieldLemmas
 mod FindLemmas
 mod RunLemmas
+mod RowLemmas
 mod HeaderLemmas
 mod OneLemmas
 mod PlaceLemmas
@@ -15,3 +16,4 @@ mod StepLemmas
 mod TileLemmas
 mod ValueLemmas
 mod WithinLemmas
+mod VoidLemmas

@@ -1,12 +1,16 @@
 -- What the segments of a header say of components, as far as two codestreams are compared by it (A.6): decomposition levels, wavelet,
 -- component transform, quantization and the shift of a region of interest, each with the slot of its segment.
-use Rattle.std.specs.Prelude.{ℕ, ◌≡◌, ◌<◌, ◌+◌, ◌-◌, ◌*◌, ◌==◌, Bool, true, false, List, map, Option, None, Some}
+use Rattle.std.specs.Prelude.{ℕ, ◌≡◌, ◌<◌, ◌+◌, ◌-◌, ◌*◌, Bool, true, false, List, map, Option, Some}
 use Rattle.std.specs.List.{filter}
+use Rattle.std.specs.Option.{option_map}
 use Rattle.jx_marker.specs.declared.Quant.{Quant}
 use Rattle.jx_marker.specs.declared.Segment.{Segment}
 use Rattle.jx_marker.specs.declared.Segment.TheVariants as segment
 use Rattle.jx_codestream.specs.declared.Stream.{Stream}
+use Rattle.jx_codestream.specs.Headers.{coc_slot, cod_slot, qcc_slot, qcd_slot, rgn_slot}
+use Rattle.jx_codestream.specs.Index.{has_named}
 use Rattle.jx_codestream.specs.Params.{header_of, quant_in}
+use Rattle.jx_codestream.specs.Tiles.{in_slot}
 use Rattle.jx_same.specs.declared.sayings.Said.{Said}
 
 -- the numbers of a segment, without those of quantization
@@ -25,31 +29,50 @@ pub record Saying : Type 0 where
 abbrev pub saying_of : Segment → Saying
 saying_of s = record { said = said_of s; quant = quant_in (Some s) }
 
--- a component is one of those that are asked about: the one that is named, or each
-abbrev pub is_about : Option ℕ → ℕ → Bool
-is_about None comp = true
-is_about (Some asked) comp = asked == comp
+-- a segment gives parameters: of all components, or, where those count too, of one that it names
+abbrev pub concerns : Bool → Segment → Bool
+concerns all (segment.Cod cod) = true
+concerns all (segment.Coc comp shape) = all
+concerns all (segment.Qcd quant) = true
+concerns all (segment.Qcc comp quant) = all
+concerns all (segment.Rgn comp shift) = all
+concerns all _ = false
 
--- a segment says something of such a component
-abbrev pub concerns : Option ℕ → Segment → Bool
-concerns asked (segment.Cod cod) = true
-concerns asked (segment.Coc comp shape) = is_about asked comp
-concerns asked (segment.Qcd quant) = true
-concerns asked (segment.Qcc comp quant) = is_about asked comp
-concerns asked (segment.Rgn comp shift) = is_about asked comp
-concerns asked _ = false
+-- what these segments of a header say, one by one
+abbrev pub sayings : Bool → List Segment → List Saying
+sayings all header = map saying_of (filter (concerns all) header)
 
--- what a header says of them, segment by segment
-abbrev pub sayings : Option ℕ → List Segment → List Saying
-sayings asked header = map saying_of (filter (concerns asked) header)
+-- what the first segment of a slot says
+abbrev pub saying_in : ℕ → List Segment → Option Saying
+saying_in slot header = option_map saying_of (in_slot slot header)
+
+-- two headers say the same of a component, in each slot by which it goes
+pub record SaySame (c : ℕ) (h k : List Segment) : Type 0 where
+  pub cod : saying_in cod_slot h ≡ saying_in cod_slot k
+  pub qcd : saying_in qcd_slot h ≡ saying_in qcd_slot k
+  pub coc : saying_in (coc_slot c) h ≡ saying_in (coc_slot c) k
+  pub qcc : saying_in (qcc_slot c) h ≡ saying_in (qcc_slot c) k
+  pub rgn : saying_in (rgn_slot c) h ≡ saying_in (rgn_slot c) k
 
 -- in two codestreams the headers of a tile say the same of all components, and so do the main headers
 pub record AreAlikeAt (s t : Stream) (i : ℕ) : Type 0 where
-  pub main : sayings None s.main ≡ sayings None t.main
-  pub own : sayings None (header_of s i) ≡ sayings None (header_of t i)
+  pub main : sayings true s.main ≡ sayings true t.main
+  pub own : sayings true (header_of s i) ≡ sayings true (header_of t i)
 
 -- in each the header of a tile says what that of the tile before says
-pub record AreAsBefore (s t : Stream) (asked : Option ℕ) (i : ℕ) : Type 0 where
+pub record AreAsBefore (s t : Stream) (all : Bool) (i : ℕ) : Type 0 where
   pub there : 0 < i
-  pub one : sayings asked (header_of s i) ≡ sayings asked (header_of s (i - 1))
-  pub two : sayings asked (header_of t i) ≡ sayings asked (header_of t (i - 1))
+  pub one : sayings all (header_of s i) ≡ sayings all (header_of s (i - 1))
+  pub two : sayings all (header_of t i) ≡ sayings all (header_of t (i - 1))
+
+-- no segment of these headers names the component: in either codestream, that of the tile and that of the tile before
+pub record IsUnnamed (s t : Stream) (i c : ℕ) : Type 0 where
+  pub one : has_named c (header_of s i) ≡ false
+  pub one_before : has_named c (header_of s (i - 1)) ≡ false
+  pub two : has_named c (header_of t i) ≡ false
+  pub two_before : has_named c (header_of t (i - 1)) ≡ false
+
+-- nor do the defaults of these headers change from the tile before
+pub record IsUnchanged (s t : Stream) (i c : ℕ) : Type 0 where
+  pub defaults : AreAsBefore s t false i
+  pub unnamed : IsUnnamed s t i c

@@ -110,6 +110,12 @@ pub record AreAlike (a b : Block) : Type 0 where
   pub passes : a.passes ≡ b.passes
   pub cells : own_cells a ≡ own_cells b
 
+-- neither of two blocks has a pass, and the second has all places of the first
+pub record AreVoid (a b : Block) : Type 0 where
+  pub one : a.passes ≡ 0
+  pub two : b.passes ≡ 0
+  pub inside : (x y : ℕ) → InRect a.rect x y → InRect b.rect x y
+
 -- ---- which of some fields differ, by two values that have them
 abbrev pub unlike_picture : Siz → Siz → Field → Bool
 unlike_picture a b field.Canvas = not (same_canvas a b)

@@ -1,17 +1,17 @@
 //! The coefficients of a code-block of one codestream, compared with those of the same places in the other.
 
-ghost use Rattle.std.specs.Prelude.{◌≡◌, ◌<◌, ◌+◌, ℕ, find, IfOk, OnOk};
-ghost use Rattle.jx_base.specs.Places.{InRect, column_at, row_at, size_of};
+ghost use Rattle.std.specs.Prelude.{◌≡◌, ◌<◌, ◌+◌, ℕ, find, IfOk, IsTrue, OnOk};
+ghost use Rattle.jx_base.specs.Places.{InRect, InSpan, column_at, row_at, size_of};
 ghost use Rattle.jx_geom.specs.Geometry.{band_in, blocks_in};
 ghost use Rattle.jx_same.specs.declared.answer.Field.TheVariants as field;
 ghost use Rattle.jx_same.specs.Items.{block_items, coef_items, differs};
-ghost use Rattle.jx_same.specs.Sides.{AreAligned, AreOnShelf, Covers, HasBandOf, geometry_at, meaning_at};
+ghost use Rattle.jx_same.specs.Sides.{AreAligned, AreOnShelf, AreVoid, Covers, HasBandOf, geometry_at, meaning_at};
 
 use crate::decoded::{Decoded, are_alike};
 use crate::shelf::Shelf;
 use crate::side::{BandName, Side};
 use crate::{Field, Spot};
-use jx_base::{NoMemory, Rect};
+use jx_base::{Block, NoMemory, Rect, Span};
 use std::alloc::Global;
 
 /// The spot of a coefficient.
@@ -70,8 +70,26 @@ fn compare_places<'a>(
     Ok(None)
 }
 
+/// Whether a span has each number of another one.
+fn has_span(span: Span, other: Span) -> bool
+    ensures { IsTrue result → (n : ℕ) → InSpan other n → InSpan span n }
+{
+    span.low <= other.low && other.high <= span.high
+}
+
+/// Whether neither of two code-blocks has a pass, and the second has all places of the first.
+fn are_void(a: &Block<'_>, b: &Block<'_>) -> bool
+    ensures { IsTrue result → AreVoid a.now b.now }
+{
+    let none = a.passes == 0 && b.passes == 0;
+    let across = has_span(b.rect.x, a.rect.x);
+    let down = has_span(b.rect.y, a.rect.y);
+    let inside = across && down;
+    none && inside
+}
+
 /// The first place of a code-block of which the coefficients differ; none of them is decoded where the other codestream has the
-/// same passes in the same segments.
+/// same passes in the same segments, or both have none.
 ///
 /// # Errors
 ///
@@ -93,6 +111,9 @@ pub(crate) fn compare_block<'a>(
 {
     let block = a.block(name, index);
     let twin = b.block_over(name, block.rect.x.low, block.rect.y.low);
+    if are_void(block, twin) {
+        return Ok(None);
+    }
     if are_alike(alloc, block, twin)? {
         return Ok(None);
     }

@@ -4,6 +4,8 @@
 mod answer;
 mod bands;
 mod blocks;
+mod cells;
+mod changes;
 mod decoded;
 mod headers;
 mod input;

@@ -2,7 +2,7 @@
 
 ghost use Rattle.std.specs.Prelude.{◌≡◌, ◌<◌, ◌≤◌, ℕ, IsTrue, MatchOption, None, Some, drop, length, slice_get, true};
 ghost use Rattle.jx_codestream.specs.Params.{quant_in};
-ghost use Rattle.jx_same.specs.Sayings.{AreAlikeAt, AreAsBefore, concerns, is_about, said_of, saying_of, sayings};
+ghost use Rattle.jx_same.specs.Sayings.{AreAlikeAt, AreAsBefore, concerns, said_of, saying_of, sayings};
 ghost use Rattle.jx_marker.specs.declared.Segment.{Segment};
 
 use crate::input::Input;
@@ -115,53 +115,43 @@ fn same_saying(a: &Segment, b: &Segment) -> bool
     same_said(said_of(a), said_of(b)) && same_quant(a, b)
 }
 
-/// Whether a component is one of those that are asked about: the one that is named, or each.
-fn is_about(asked: Option<u16>, comp: u16) -> bool
-    ensures { result ≡ is_about asked comp }
-{
-    match asked {
-        None => true,
-        Some(asked) => asked == comp,
-    }
-}
-
-/// Whether a segment says something of such a component.
-fn concerns(asked: Option<u16>, segment: &Segment) -> bool
-    ensures { result ≡ concerns asked segment.now }
+/// Whether a segment gives parameters: of all components, or, where `all` segments count, of one that it names.
+fn concerns(all: bool, segment: &Segment) -> bool
+    ensures { result ≡ concerns all segment.now }
 {
     match segment {
         Segment::Cod(_) => true,
-        Segment::Coc { comp, .. } => is_about(asked, *comp),
+        Segment::Coc { .. } => all,
         Segment::Qcd(_) => true,
-        Segment::Qcc { comp, .. } => is_about(asked, *comp),
-        Segment::Rgn { comp, .. } => is_about(asked, *comp),
+        Segment::Qcc { .. } => all,
+        Segment::Rgn { .. } => all,
         _ => false,
     }
 }
 
-/// The next segment that says something of such a component, from a place on; the header's end where there is none.
-fn next_concerning(header: &[Segment], asked: Option<u16>, from: usize) -> usize
+/// The next segment that counts, from an index on; the header's length if there is none.
+fn next_concerning(header: &[Segment], all: bool, from: usize) -> usize
     requires { from ≤ length header.now }
-    ensures same { sayings asked (drop from header.now) ≡ sayings asked (drop result header.now) }
-    ensures here { (s : Segment) → slice_get header.now result ≡ Some s → concerns asked s ≡ true }
+    ensures same { sayings all (drop from header.now) ≡ sayings all (drop result header.now) }
+    ensures here { (s : Segment) → slice_get header.now result ≡ Some s → concerns all s ≡ true }
     ensures most { result ≤ length header.now }
 {
     for at in from..header.len() {
-        if concerns(asked, &header[at]) {
+        if concerns(all, &header[at]) {
             return at;
         }
     }
     header.len()
 }
 
-/// Whether two headers say the same of the components that are asked about, in the same order.
-fn same_sayings(asked: Option<u16>, a: &[Segment], b: &[Segment]) -> bool
-    ensures { IsTrue result → sayings asked a.now ≡ sayings asked b.now }
+/// Whether the segments of two headers that count say the same, in the same order.
+fn same_sayings(all: bool, a: &[Segment], b: &[Segment]) -> bool
+    ensures { IsTrue result → sayings all a.now ≡ sayings all b.now }
 {
     let mut other = 0;
     for at in 0..a.len() {
-        if concerns(asked, &a[at]) {
-            other = next_concerning(b, asked, other);
+        if concerns(all, &a[at]) {
+            other = next_concerning(b, all, other);
             if other == b.len() {
                 return false;
             }
@@ -171,31 +161,31 @@ fn same_sayings(asked: Option<u16>, a: &[Segment], b: &[Segment]) -> bool
             other += 1;
         }
     }
-    next_concerning(b, asked, other) == b.len()
+    next_concerning(b, all, other) == b.len()
 }
 
 /// Whether both main headers say the same of all components.
 pub(crate) fn are_mains_alike(a: &Input<'_>, b: &Input<'_>) -> bool
-    ensures { IsTrue result → sayings None a.now.stream.now.main ≡ sayings None b.now.stream.now.main }
+    ensures { IsTrue result → sayings true a.now.stream.now.main ≡ sayings true b.now.stream.now.main }
 {
-    same_sayings(None, a.stream.main.as_slice(), b.stream.main.as_slice())
+    same_sayings(true, a.stream.main.as_slice(), b.stream.main.as_slice())
 }
 
 /// Whether the headers of a tile say the same of all components, where the main headers do.
 pub(crate) fn are_alike(a: &Input<'_>, b: &Input<'_>, mains: bool, tile: u16) -> bool
-    requires { IsTrue mains → sayings None a.now.stream.now.main ≡ sayings None b.now.stream.now.main }
+    requires { IsTrue mains → sayings true a.now.stream.now.main ≡ sayings true b.now.stream.now.main }
     ensures { IsTrue result → AreAlikeAt a.now.stream.now b.now.stream.now tile }
 {
-    mains && same_sayings(None, a.stream.header(tile), b.stream.header(tile))
+    mains && same_sayings(true, a.stream.header(tile), b.stream.header(tile))
 }
 
-/// Whether in both codestreams the header of a tile says of the components that are asked about what that of the tile before says.
-pub(crate) fn are_as_before(a: &Stream, b: &Stream, asked: Option<u16>, tile: u16) -> bool
-    ensures { IsTrue result → AreAsBefore a.now b.now asked tile }
+/// Whether in both codestreams the segments of a tile's header that count say what those of the tile before say.
+pub(crate) fn are_as_before(a: &Stream, b: &Stream, all: bool, tile: u16) -> bool
+    ensures { IsTrue result → AreAsBefore a.now b.now all tile }
 {
     if tile == 0 {
         return false;
     }
-    same_sayings(asked, a.header(tile), a.header(tile - 1))
-        && same_sayings(asked, b.header(tile), b.header(tile - 1))
+    same_sayings(all, a.header(tile), a.header(tile - 1))
+        && same_sayings(all, b.header(tile), b.header(tile - 1))
 }

@@ -7,17 +7,17 @@ ghost use Rattle.jx_geom.specs.Geometry.{band_in};
 ghost use Rattle.jx_same.specs.Sides.{AreOnShelf, HasBandOf, agrees_at, geometry_at};
 
 use crate::decoded::Decoded;
-use crate::side::{BandName, Columns, Side};
+use crate::side::{BandName, InCells, Side};
 use jx_base::NoMemory;
 use std::alloc::Global;
 use std::marker::Model;
 
-/// Decoded code-blocks, at most one for each column of code-blocks that stands beside a code-block of the other codestream. One that
-/// comes takes the place of the one before it in its column, so that a code-block is decoded once for each one that it stands beside.
+/// Decoded code-blocks, at most as many as a cell has: each has a slot of its own there, and one that comes takes the place of that of
+/// another cell. So a code-block is decoded once, as long as cells are gone through one after another.
 #[derive(Drop)]
 pub(crate) struct Shelf<'a> {
     slots: Vec<Option<Decoded<'a>>>,
-    columns: Columns,
+    cells: InCells,
 }
 
 impl<'a> Model for Shelf<'a> {
@@ -28,7 +28,7 @@ impl<'a> Model for Shelf<'a> {
 
     ghost view = { λ s. s.slots.items };
 
-    ghost invariant = { λ s. (s.columns.across < 32) × (0 < s.columns.count) };
+    ghost invariant = { λ s. (s.cells.across < 32) × (s.cells.down < 32) × (0 < s.cells.columns) × (0 < s.cells.rows) };
 }
 
 /// What stands in a slot, where it has a place.
@@ -71,23 +71,27 @@ fn put<'a>(
 
 impl<'a> Shelf<'a> {
     /// A shelf without a code-block. It takes no memory.
-    pub(crate) fn new(alloc: Global, columns: Columns) -> Shelf<'a>
-        requires across { columns.across < 32 }
-        requires some { 0 < columns.count }
+    pub(crate) fn new(alloc: Global, cells: InCells) -> Shelf<'a>
+        requires across { cells.across < 32 }
+        requires down { cells.down < 32 }
+        requires columns { 0 < cells.columns }
+        requires rows { 0 < cells.rows }
         ensures { result ≡ [] }
     {
         Shelf {
             slots: Vec::new(alloc),
-            columns,
+            cells,
         }
     }
 
-    /// The slot of a column of places.
-    fn slot(&self, x: u32) -> usize
+    /// The slot of the code-block that has a place.
+    fn slot(&self, x: u32, y: u32) -> usize
         ensures { result < 2 ^ 32 }
     {
-        // the count is a power of two
-        ((x >> self.columns.across) & (self.columns.count - 1)) as usize
+        let column = (x >> self.cells.across) % self.cells.columns;
+        let row = (y >> self.cells.down) % self.cells.rows;
+        // a cell has 256 at most, so nothing wraps
+        row.wrapping_mul(self.cells.columns).wrapping_add(column) as usize
     }
 
     /// Whether a code-block that has a place of a band has the coefficient there that a codestream has: sign, magnitude bits and
@@ -112,7 +116,7 @@ impl<'a> Shelf<'a> {
         ensures shelf { OnOk result (AreOnShelf side.now name self.new) }
         ensures agrees { IfOk result (λ same. same ≡ agrees_at side.now name block.now x y) }
     {
-        let at = self.slot(x);
+        let at = self.slot(x, y);
         if let Some(hand) = found(&self.slots, at, x, y) {
             return Ok(block.agrees(hand, x, y));
         }

@@ -12,6 +12,7 @@ ghost use Rattle.jx_codestream.specs.Params.{params_of, step_of};
 ghost use Rattle.jx_codestream.specs.Shapes.{shapes_of};
 ghost use Rattle.jx_tile.specs.Frame.{AreOfTile};
 ghost use Rattle.jx_same.specs.Items.{rect_in};
+ghost use Rattle.jx_same.specs.Runs.{IsWalk};
 ghost use Rattle.jx_same.specs.Sides.{Covers, HasBandOf, IsEmptyIn, IsInput, IsSide, geometry_at};
 
 use crate::input::Input;
@@ -30,11 +31,31 @@ pub(crate) struct BandName {
     pub(crate) band: Band,
 }
 
-/// Which code-blocks of a band stand beside one of another codestream: `count` columns of them, each of `2^across` columns of places.
+/// Where the code-blocks of a band stand in a cell: the places of whole code-blocks of both codestreams, as few as there may be. A cell
+/// has `columns` by `rows` of them, each of 2^`across` by 2^`down` places.
 #[derive(Clone, Copy, Debug)]
-pub(crate) struct Columns {
+pub(crate) struct InCells {
     pub(crate) across: u32,
+    pub(crate) down: u32,
+    pub(crate) columns: u32,
+    pub(crate) rows: u32,
+}
+
+/// How the code-blocks of a band are gone through: `high` rows of `wide` of them, the first in column `left` and row `top` of the
+/// code-blocks from place 0 on; `columns` by `rows` of them have the places of a cell.
+#[derive(Clone, Copy, Debug)]
+pub(crate) struct Walk {
+    pub(crate) left: u32,
+    pub(crate) top: u32,
+    pub(crate) wide: u32,
+    pub(crate) high: u32,
     pub(crate) count: u32,
+    pub(crate) columns: u32,
+    pub(crate) rows: u32,
+    /// The other's code-blocks are higher, so whole rows are gone through together.
+    pub(crate) by_rows: bool,
+    /// The exponent of the number of places of a cell, at most 20.
+    pub(crate) places: u32,
 }
 
 /// A codestream at one of its tiles.
@@ -232,36 +253,58 @@ impl<'a> Side<'a> {
         view.step(name.comp, name.res, name.band)
     }
 
-    /// How many code-blocks a band has.
-    pub(crate) fn count(&self, name: BandName) -> u32
+    /// The exponents of the width and the height of a band's code-blocks.
+    fn exponents(&self, name: BandName) -> (u32, u32)
         requires { HasBandOf self.now name }
-        ensures { result ≡ size_of (blocks_in (geometry_at self.now) name.comp name.res name.band) }
-    {
-        let (_, _, geom) = self.frame.parts();
-        geom.block_grid(name.comp, name.res, name.band).count()
-    }
-
-    /// The exponent of the width of a band's code-blocks.
-    fn across(&self, name: BandName) -> u32
-        requires { HasBandOf self.now name }
-        ensures { result < 16 }
+        ensures across { result.0 < 16 }
+        ensures down { result.1 < 16 }
     {
         let (stream, view, geom) = self.frame.parts();
-        let (across, _) = block_exponents(shape_at(stream, view, geom, name.comp), name.res);
-        across
+        block_exponents(shape_at(stream, view, geom, name.comp), name.res)
     }
 
-    /// Which code-blocks of a band stand beside one of another codestream that has the band.
-    pub(crate) fn columns(&self, name: BandName, other: &Side<'_>) -> Columns
+    /// Where the code-blocks of a band stand in the cells of both codestreams.
+    pub(crate) fn in_cells(&self, name: BandName, other: &Side<'_>) -> InCells
         requires own { HasBandOf self.now name }
         requires other { HasBandOf other.now name }
         ensures across { result.across < 32 }
-        ensures some { 0 < result.count }
+        ensures down { result.down < 32 }
+        ensures columns { 0 < result.columns }
+        ensures rows { 0 < result.rows }
     {
-        let across = self.across(name);
-        Columns {
+        let (across, down) = self.exponents(name);
+        let (wider, higher) = other.exponents(name);
+        InCells {
             across,
-            count: 1 << other.across(name).saturating_sub(across),
+            down,
+            columns: 1 << wider.saturating_sub(across),
+            rows: 1 << higher.saturating_sub(down),
+        }
+    }
+
+    /// How the code-blocks of a band are gone through beside those of another codestream.
+    pub(crate) fn walk(&self, name: BandName, other: &Side<'_>) -> Walk
+        requires own { HasBandOf self.now name }
+        requires other { HasBandOf other.now name }
+        ensures { IsWalk (blocks_in (geometry_at self.now) name.comp name.res name.band) result }
+    {
+        let (_, _, geom) = self.frame.parts();
+        let blocks = geom.cells(name.comp, name.res, name.band);
+        let wide = blocks.x.len();
+        let high = blocks.y.len();
+        let area = blocks.area();
+        let own = self.in_cells(name, other);
+        let (wider, higher) = other.exponents(name);
+        Walk {
+            left: blocks.x.low,
+            top: blocks.y.low,
+            wide,
+            high,
+            count: area as u32,
+            columns: own.columns,
+            rows: own.rows,
+            by_rows: own.rows > 1,
+            places: own.across.max(wider) + own.down.max(higher),
         }
     }
 

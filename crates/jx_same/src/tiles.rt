@@ -1,15 +1,16 @@
 //! The tiles of two codestreams one after another.
 
-ghost use Rattle.std.specs.Prelude.{◌≡◌, ◌<◌, ◌≤◌, ◌-◌, ◌&&◌, ◌||◌, find, length, IfOk, IsTrue, None};
+ghost use Rattle.std.specs.Prelude.{◌≡◌, ◌<◌, ◌≤◌, ◌-◌, ◌&&◌, ◌||◌, ℕ, false, find, length, slice_get, IfOk, IsTrue, None, Some, true};
 ghost use Rattle.jx_base.specs.Joined.{joined};
 ghost use Rattle.jx_codestream.specs.First.{tile_number};
 ghost use Rattle.jx_same.specs.Items.{component_items, differs, tile_items};
-ghost use Rattle.jx_same.specs.Sayings.{sayings};
+ghost use Rattle.jx_same.specs.Sayings.{IsUnchanged, sayings};
 ghost use Rattle.jx_same.specs.Shared.{AreBareAt, AreSameHeaders, gives_some};
 ghost use Rattle.jx_same.specs.Sides.{AreBeside, IsEmptyIn, IsInput, geometry_at, meaning_at, meaning_in};
 
 use crate::Spot;
 use crate::bands::compare_component;
+use crate::changes::{changed_comps, is_unchanged};
 use crate::input::Input;
 use crate::sayings::{are_alike, are_as_before, are_mains_alike};
 use crate::side::Side;
@@ -71,10 +72,27 @@ fn either(a: bool, b: bool) -> bool
     b
 }
 
+/// The components of which the headers of a tile may say something else than those of the tile before; none are looked for if it is
+/// known that both headers say the same of all.
+fn changed_unless(
+    alloc: Global,
+    a: &Input<'_>,
+    b: &Input<'_>,
+    tile: u16,
+    known: bool,
+) -> Result<Vec<bool>, NoMemory>
+    ensures { IfOk result (λ changed. (c : ℕ) → slice_get changed.items c ≡ Some false → IsUnchanged a.now.stream.now b.now.stream.now tile c) }
+{
+    if known {
+        return Ok(Vec::new(alloc));
+    }
+    changed_comps(alloc, a.stream, b.stream, tile)
+}
+
 /// Whether it is known that both headers of a tile say the same of all components: they say what they said in the tile before, or both
 /// say the same as the other, and so do the main headers.
 fn is_known(a: &Input<'_>, b: &Input<'_>, tile: u16, mains: bool, shared: bool) -> bool
-    requires mains { IsTrue mains → sayings None a.now.stream.now.main ≡ sayings None b.now.stream.now.main }
+    requires mains { IsTrue mains → sayings true a.now.stream.now.main ≡ sayings true b.now.stream.now.main }
     requires shared { IsTrue shared → AreSameHeaders a.now.stream.now b.now.stream.now tile }
     requires before { 0 < tile → AreSameHeaders a.now.stream.now b.now.stream.now (tile - 1) }
     ensures { IsTrue result → AreSameHeaders a.now.stream.now b.now.stream.now tile }
@@ -82,7 +100,7 @@ fn is_known(a: &Input<'_>, b: &Input<'_>, tile: u16, mains: bool, shared: bool) 
     if shared {
         return true;
     }
-    if are_as_before(a.stream, b.stream, None, tile) {
+    if are_as_before(a.stream, b.stream, true, tile) {
         return true;
     }
     are_alike(a, b, mains, tile)
@@ -90,10 +108,18 @@ fn is_known(a: &Input<'_>, b: &Input<'_>, tile: u16, mains: bool, shared: bool) 
 
 /// Whether it is known of a component that no value of it differs: it has no place in the tile, and both headers say the same of it, or
 /// say what they said in the tile before.
-fn is_settled(a: &Side<'_>, b: &Side<'_>, comp: u16, known: bool, empty: bool) -> bool
+fn is_settled(
+    a: &Side<'_>,
+    b: &Side<'_>,
+    comp: u16,
+    known: bool,
+    changed: &[bool],
+    empty: bool,
+) -> bool
     requires comp { comp < length a.now.stream.siz.comps }
     requires known { IsTrue known → AreSameHeaders a.now.stream b.now.stream a.now.tile }
     requires before { 0 < a.now.tile → AreSameHeaders a.now.stream b.now.stream (a.now.tile - 1) }
+    requires changed { (c : ℕ) → slice_get changed.now c ≡ Some false → IsUnchanged a.now.stream b.now.stream a.now.tile c }
     requires empty { IsTrue empty → IsEmptyIn a.now comp }
     ensures { IsTrue result → find (differs (meaning_at a.now) (meaning_at b.now)) (component_items (geometry_at a.now) comp) ≡ None }
 {
@@ -103,7 +129,7 @@ fn is_settled(a: &Side<'_>, b: &Side<'_>, comp: u16, known: bool, empty: bool) -
     if known {
         return true;
     }
-    are_as_before(a.stream(), b.stream(), Some(comp), a.tile())
+    is_unchanged(changed, comp)
 }
 
 /// The first value of a tile-component that differs; none is looked for where it is known that there is none.
@@ -138,17 +164,19 @@ fn compare_tile<R: Threads + Sync>(
     a: &Side<'_>,
     b: &Side<'_>,
     known: bool,
+    changed: &[bool],
 ) -> Result<Option<Spot>, NoMemory>
     requires threads { (1 ≤ threads) × (threads ≤ 64) }
     requires beside { AreBeside a.now b.now }
     requires known { IsTrue known → AreSameHeaders a.now.stream b.now.stream a.now.tile }
+    requires changed { (c : ℕ) → slice_get changed.now c ≡ Some false → IsUnchanged a.now.stream b.now.stream a.now.tile c }
     requires before { 0 < a.now.tile → AreSameHeaders a.now.stream b.now.stream (a.now.tile - 1) }
     ensures { IfOk result (λ found. found ≡ find (differs (meaning_at a.now) (meaning_at b.now)) (tile_items a.now.stream a.now.tile)) }
 {
     let mut empty = false;
     for comp in 0..a.comps() {
         empty = a.is_empty_after(comp, empty);
-        let settled = is_settled(a, b, comp, known, empty);
+        let settled = is_settled(a, b, comp, known, changed, empty);
         if let Some(spot) = compare_unless(rt, alloc, threads, a, b, comp, settled)? {
             return Ok(Some(spot));
         }
@@ -184,7 +212,8 @@ fn compare_all<'a, R: Threads + Sync>(
         let side_b = Side::new(alloc, b, main_b, tile, first_b)?;
         let bare = are_bare(&a, &b, tile);
         let same = is_known(&a, &b, tile, mains, both(known, bare));
-        if let Some(spot) = compare_tile(rt, alloc, threads, &side_a, &side_b, same)? {
+        let changed = changed_unless(alloc, &a, &b, tile, same)?;
+        if let Some(spot) = compare_tile(rt, alloc, threads, &side_a, &side_b, same, &changed)? {
             return Ok(Some(spot));
         }
         known = either(known, bare);

@@ -1,38 +1,23 @@
-use Rattle.std.proofs.Common.{◌∙◌, sym, arith}
-use Rattle.jx_same.specs.Items.{block_items, differs}
-use Rattle.jx_same.specs.Sides.{geometry_at, meaning_at}
+use Rattle.std.proofs.Common.{◌≤◌, ℕ, Bool, subst}
+use Rattle.jx_same.specs.Runs.{unit_count}
 use Rattle.jx_same.proofs.BlockLemmas.{aligned_has, none_on_shelf}
-use Rattle.jx_same.proofs.FindLemmas.{from_begins, from_ends, from_goes, from_stops, nothing}
 use Rattle.jx_same.proofs.runs.compare_run.Goals as goal
 
-pub columns-requires-clause-own : goal.columns-requires-clause-own
-columns-requires-clause-own c = aligned_has c.args.a.now c.args.b.now c.args.name c.requires.aligned c.requires.band
+pub compare_rows-requires-clause-high : goal.compare_rows-requires-clause-high
+compare_rows-requires-clause-high c = subst (λ (b : Bool). c.args.high ≤ unit_count b c.args.walk) c.if-walk.true c.requires.high
 
-pub loop-index-init : goal.loop-index-init
-loop-index-init c =
-    let n = c.args.name in
-    record {
-      shelf = none_on_shelf c.args.b.now n c.new-shelf.result c.new-shelf.ensures;
-      none = from_begins (differs (meaning_at c.args.a.now) (meaning_at c.args.b.now)) (block_items (geometry_at c.args.a.now) n.comp n.res n.band) c.args.low c.args.low (omega arith);
-    }
+pub returns-then-walk : goal.returns-then-walk
+returns-then-walk c = rw c.if-walk.true c.compare_rows.ensures
 
-pub returns-in-Some : goal.returns-in-Some
-returns-in-Some c =
-    let n = c.args.name in
-    sym (from_stops (differs (meaning_at c.args.a.now) (meaning_at c.args.b.now)) (block_items (geometry_at c.args.a.now) n.comp n.res n.band) c.args.low c.loop-index.index c.args.high c.in-Some.spot
-    (omega arith) c.loop-index.invariant.none (sym c.in_ok-spot.ensures.first ∙ c.in-Some.is) c.loop-index-test.true)
+pub in_cells-requires-clause-own : goal.in_cells-requires-clause-own
+in_cells-requires-clause-own c = aligned_has c.args.a.now c.args.b.now c.args.name c.requires.aligned c.requires.band
 
-pub loop-index-preserved : goal.loop-index-preserved
-loop-index-preserved c =
-    let n = c.args.name in
-    record {
-      shelf = c.in_ok-spot.ensures.shelf;
-      none = from_goes (differs (meaning_at c.args.a.now) (meaning_at c.args.b.now)) (block_items (geometry_at c.args.a.now) n.comp n.res n.band) c.args.low c.loop-index.index
-          (omega arith) c.loop-index.invariant.none (sym c.in_ok-spot.ensures.first ∙ nothing c.in_ok-spot.field-0 (λ x is. c.in_default.not-Some x is));
-    }
+pub compare_between-requires-clause-high : goal.compare_between-requires-clause-high
+compare_between-requires-clause-high c =
+    subst (λ (k : ℕ). c.args.high ≤ k) c.requires.walk.all (subst (λ (b : Bool). c.args.high ≤ unit_count b c.args.walk) c.if-walk.false c.requires.high)
+
+pub compare_between-requires-clause-shelf : goal.compare_between-requires-clause-shelf
+compare_between-requires-clause-shelf c = none_on_shelf c.args.b.now c.args.name c.new-shelf.result c.new-shelf.ensures
 
 pub returns : goal.returns
-returns c =
-    let n = c.args.name in
-    sym (from_ends (differs (meaning_at c.args.a.now) (meaning_at c.args.b.now)) (block_items (geometry_at c.args.a.now) n.comp n.res n.band) c.args.low c.args.high c.loop-index.index
-    (omega (arith, c.loop-index-test.false)) (λ le. omega (arith, le)) c.loop-index.invariant.none)
+returns c = rw c.if-walk.false c.compare_between.ensures.first

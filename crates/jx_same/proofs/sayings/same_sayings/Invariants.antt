@@ -5,5 +5,5 @@ use Rattle.jx_same.proofs.sayings.same_sayings.Given as goal
 abbrev pub invariant-loop-at : goal.invariant-loop-at
 invariant-loop-at l = record {
   most : l.other ≤ length l.b;
-  rest : sayings l.asked (drop l.at l.a) ≡ sayings l.asked (drop l.other l.b) → sayings l.asked l.a ≡ sayings l.asked l.b;
+  rest : sayings l.all (drop l.at l.a) ≡ sayings l.all (drop l.other l.b) → sayings l.all l.a ≡ sayings l.all l.b;
 }

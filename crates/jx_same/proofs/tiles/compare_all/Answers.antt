@@ -4,6 +4,7 @@ use Rattle.jx_marker.specs.declared.Siz.{Siz}
 use Rattle.jx_codestream.specs.declared.Stream.{Stream}
 use Rattle.jx_codestream.specs.First.{tile_number}
 use Rattle.jx_same.specs.Items.{differs, tile_items}
+use Rattle.jx_same.specs.Sayings.{IsUnchanged}
 use Rattle.jx_same.specs.Shared.{AreSameHeaders, AreSameMain}
 use Rattle.jx_same.specs.Sides.{meaning_in}
 use Rattle.jx_same.proofs.FindLemmas.{joined_begins, joined_goes, joined_stops, nothing}
@@ -44,6 +45,11 @@ pub compare_tile-requires-clause-before : goal.compare_tile-requires-clause-befo
 compare_tile-requires-clause-before g c κs held =
     headers_beside (λ (s t : Stream) (n : ℕ). 0 < n → AreSameHeaders s t (n - 1)) c.args.a c.args.b c.in_ok-side_a.side_a c.in_ok-side_b.side_b c.loop-tile.tile
     c.in_ok-side_a.ensures c.in_ok-side_b.ensures (λ lt. headers_before c.args.a c.args.b c.loop-tile.tile lt c.loop-tile.invariant.none)
+
+pub compare_tile-requires-clause-changed : goal.compare_tile-requires-clause-changed
+compare_tile-requires-clause-changed g c κs held =
+    λ k is. headers_beside (λ (s t : Stream) (n : ℕ). IsUnchanged s t n k) c.args.a c.args.b c.in_ok-side_a.side_a c.in_ok-side_b.side_b c.loop-tile.tile c.in_ok-side_a.ensures c.in_ok-side_b.ensures
+    (c.in_ok-changed.ensures k (rw (← c.deref.ensures.value) is))
 
 pub returns-in-Some : goal.returns-in-Some
 returns-in-Some g c =

@@ -12,6 +12,6 @@ pub returns : goal.returns
 returns c = λ is.
     (let a = c.args.a.now in
     let b = c.args.b.now in
-    let same = before_one c.stream.result.now a.stream c.stream-2.result.now b.stream c.tile.result a.tile c.args.comp c.stream.ensures c.stream-2.ensures c.tile.ensures.value
-    (c.are_as_before.ensures is) c.requires.before c.requires.comp in
+    let same = before_one a.stream b.stream a.tile c.args.comp
+    (c.requires.changed c.args.comp (c.is_unchanged.ensures is)) c.requires.before c.requires.comp in
     empty_none a.stream b.stream a.blocks b.blocks a.tile c.args.comp c.requires.comp same (c.requires.empty c.if-not-empty.false))

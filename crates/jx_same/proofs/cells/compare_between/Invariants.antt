@@ -3,7 +3,7 @@ use Rattle.std.specs.List.{find}
 use Rattle.jx_base.specs.Joined.{joined}
 use Rattle.jx_same.specs.Items.{block_items, differs}
 use Rattle.jx_same.specs.Sides.{AreOnShelf, geometry_at, meaning_at}
-use Rattle.jx_same.proofs.runs.compare_run.Given as goal
+use Rattle.jx_same.proofs.cells.compare_between.Given as goal
 
 abbrev pub invariant-loop-index : goal.invariant-loop-index
 invariant-loop-index l = record {

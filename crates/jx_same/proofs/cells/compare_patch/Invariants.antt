@@ -1,0 +1,14 @@
+use Rattle.std.proofs.Common.{◌≡◌, None}
+use Rattle.std.specs.List.{find}
+use Rattle.jx_base.specs.Joined.{joined}
+use Rattle.jx_same.specs.Items.{block_items, differs}
+use Rattle.jx_same.specs.Runs.{row_items}
+use Rattle.jx_same.specs.Sides.{AreOnShelf, geometry_at, meaning_at}
+use Rattle.jx_same.proofs.cells.compare_patch.Given as goal
+
+abbrev pub invariant-loop-row : goal.invariant-loop-row
+invariant-loop-row l = record {
+  shelf : AreOnShelf l.b l.name l.shelf;
+  none : find (differs (meaning_at l.a) (meaning_at l.b))
+      (joined (row_items (block_items (geometry_at l.a) l.name.comp l.name.res l.name.band) l.walk.wide l.patch.left l.patch.right) l.patch.low l.row) ≡ None;
+}
