@@ -16,6 +16,7 @@ mod ReducedLemmas
 mod LeftLemmas
 mod Jp2Lemmas
 mod AroundLemmas
+mod SourceLemmas
 mod OutcomeLemmas
 mod PositionsLemmas
 mod MisfitLemmas
