@@ -28,6 +28,7 @@ mod SomeVerdictLemmas
 mod StatusLemmas
 mod WrongLemmas
 mod MakeLemmas
+mod MadeSourceLemmas
 mod LinesLemmas
 mod BoxesLemmas
 mod ShowLemmas

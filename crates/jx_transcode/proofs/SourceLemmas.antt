@@ -163,8 +163,8 @@ unreduced_jp2 laws name work kind aim input (Some boxed) from inner s blocks e n
 pub unfit_apart : (limit : ℕ) (input : List ℕ) (s : Status) → IsUnfit limit input s → (s ≡ status.WriteFault → ⊥) × (s ≡ status.ReadFault → ⊥) × (s ≡ status.Words → ⊥)
 unfit_apart limit input s is = (λ e. subst (IsUnfit limit input) e is, λ e. subst (IsUnfit limit input) e is, λ e. subst (IsUnfit limit input) e is)
 
-pub long_refused : (limit : ℕ) (input : List ℕ) (within : length input ≤ limit) → limit < length input → ⊥
-long_refused limit input within long = omega (arith, within, long)
+pub unfit_undone : (limit : ℕ) (input : List ℕ) (s : Status) → IsUnfit limit input s → s ≡ status.Done → ⊥
+unfit_undone limit input s is done = subst (IsUnfit limit input) done is
 
 -- ---- what is left of a codestream
 pub left_bare : (d : ℕ) (input inner : List ℕ) (boxed : Option Boxed) (from : ℕ) (s : Stream) (blocks : List Block) → boxed ≡ None → LiesIn input boxed from inner → ReadsLeft d inner s blocks → ReadsLeft d input s blocks

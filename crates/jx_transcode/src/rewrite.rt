@@ -192,10 +192,10 @@ pub fn without_resolutions<'a>(
 ) -> Result<Picture<'a>, ReduceFault>
     requires may { MayBePlanned picture.stream picture.blocks.items }
     requires few { reduce ≤ 32 }
-    ensures ok { IfOk result (λ left. (input : List ℕ) → Reads input picture.stream picture.blocks.items
+    ensures ok { IfOk result (λ left. (input : List ℕ) → Reads input picture.entry.stream picture.entry.blocks.items
         → ReadsLeft reduce input left.stream left.blocks.items) }
     ensures may { IfOk result (λ left. MayBePlanned left.stream left.blocks.items) }
-    ensures err { IfErr result (λ fault. IsUnreducible reduce picture.stream fault) }
+    ensures err { IfErr result (λ fault. IsUnreducible reduce picture.entry.stream fault) }
 {
     whole_stays();
     if reduce == 0 {

@@ -22,12 +22,15 @@ use crate::rewrite::{Ending, rewrite, unreduced_by, without_resolutions};
 use crate::say::say_line;
 use crate::task::Task;
 use crate::{Report, Status};
+use jx_base::Block;
 use jx_cli::Request;
 use jx_io::{Files, Gate, Refused, Sink};
 use jx_jp2::{holds_positions, is_jp2};
 use jx_layers::LayerPlanner;
 use jx_options::FormChoice;
 use jx_plan::Misfit;
+use jx_plan::laws::gathered_may_be_planned;
+use jx_reduce::laws::whole_stays;
 use jx_rounds::Crew;
 use std::alloc::Global;
 use std::sync::Wait;
@@ -72,12 +75,15 @@ fn answer<R: Threads + Wait + Sync, G: Gate + Sync, F: Files>(
     ensures misfit { IfSome result.misfit (λ misfit.
         IsMisfitOfFile task.now.options.now.precincts task.now.reduce task.now.limit input.now result.status misfit) }
 {
+    gathered_may_be_planned();
+    whole_stays();
     let read = match read_checked(alloc, input, task.limit) {
         Ok(read) => read,
         Err(status) => return Ending::refused(alloc, status),
     };
     let Accepted { source, picture } = read;
-    let count = picture.blocks.len() as u32;
+    let all: &[Block<'_>] = &picture.blocks;
+    let count = all.len() as u32;
     let left = match without_resolutions(alloc, picture, task.reduce) {
         Ok(left) => left,
         Err(fault) => return unreduced_by(alloc, fault, count),

@@ -78,3 +78,6 @@ returns-in-Ok-clause-misfit g c =
 
 pub returns-in-Err-clause-misfit : goal.returns-in-Err-clause-misfit
 returns-in-Err-clause-misfit g c = untold _ c.say_ending-in-Err.result.misfit (none_still c.unread.result.misfit c.say_ending-in-Err.result.misfit _ c.unread.ensures.misfit c.say_ending-in-Err.ensures.misfit)
+
+pub answer-ending-requires-clause-task : goal.answer-ending-requires-clause-task
+answer-ending-requires-clause-task g c = λ lifetimes within. (rw c.options.ensures c.requires.wanted, omega (arith, c.reduce.ensures, c.requires.few))
