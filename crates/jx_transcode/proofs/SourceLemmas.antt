@@ -86,7 +86,7 @@ violates_jp2 name work kind aim input number place from inner at mm is within (i
 violates_jp2 name work kind aim input number place from inner at mm is within (inr (jp2, boxed, found, begins, same)) e broken = inr (boxed, record {
   within = within;
   found = found;
-  verdict = λ v. (at, e ∙ ap (λ (n : ℕ). n + at) begins, content_short aim.limit input boxed within, subst (λ (b : List ℕ). Violates b number at) same broken);
+  verdict = λ v. (at, e ∙ ap (λ (n : ℕ). n + at) begins, (content_short aim.limit input boxed within, subst (λ (b : List ℕ). Violates b number at) same broken));
   out = [];
   tells = refl;
   leaves = inr (undone (status.Rule number place) tt, untouched mm);
@@ -117,14 +117,14 @@ unfit_jp2 name work kind aim input (status.Rule number place) mm is (within, inl
 unfit_jp2 name work kind aim input (status.Rule number place) mm is (within, inr (from, inner, at, has, e, broken)) = violates_jp2 name work kind aim input number place from inner at mm is within has e broken
 unfit_jp2 name work kind aim input (status.Limit number found) mm is (inl long) = rw (long.1, long.2) (too_long_jp2 name work kind aim input mm long.0)
 unfit_jp2 name work kind aim input (status.Limit number found) mm is (inr (within, from, inner, has, passed)) = passes_jp2 name work kind aim input number found from inner mm is within has passed
-unfit_jp2 name work kind aim input status.NoMemory mm is no = inl (record { verdict = λ v. absurd v; none = refl; tape = refl; same = untouched mm })
-unfit_jp2 name work kind aim input status.Done mm is no = absurd no
-unfit_jp2 name work kind aim input status.Words mm is no = absurd no
-unfit_jp2 name work kind aim input (status.Choice number place) mm is no = absurd no
-unfit_jp2 name work kind aim input (status.Block number) mm is no = absurd no
-unfit_jp2 name work kind aim input (status.Unlike how) mm is no = absurd no
-unfit_jp2 name work kind aim input status.ReadFault mm is no = absurd no
-unfit_jp2 name work kind aim input status.WriteFault mm is no = absurd no
+unfit_jp2 name work kind aim input status.NoMemory mm is unfit = inl (record { verdict = λ v. absurd v; none = refl; tape = refl; same = untouched mm })
+unfit_jp2 name work kind aim input status.Done mm is unfit = absurd unfit
+unfit_jp2 name work kind aim input status.Words mm is unfit = absurd unfit
+unfit_jp2 name work kind aim input (status.Choice number place) mm is unfit = absurd unfit
+unfit_jp2 name work kind aim input (status.Block number) mm is unfit = absurd unfit
+unfit_jp2 name work kind aim input (status.Unlike how) mm is unfit = absurd unfit
+unfit_jp2 name work kind aim input status.ReadFault mm is unfit = absurd unfit
+unfit_jp2 name work kind aim input status.WriteFault mm is unfit = absurd unfit
 
 -- ---- resolutions that can't be left out
 unreduced_undone : (e : ReduceFault) → told_of_all e ≡ status.Done → ⊥

@@ -24,7 +24,7 @@ aim_by task rule = record { wanted = task.options.now; reduce = task.reduce; lim
 
 -- what a task may ask for
 abbrev pub MayBeTask : Task → Type 0
-MayBeTask task = MayBeWanted task.options.now × (task.reduce ≤ 32)
+MayBeTask task = MayBeWanted task.options.now × (task.reduce ≤ 32) × (task.limit ≤ most_bytes)
 
 -- the rule for what is left of a stream, with its blocks
 abbrev pub rule_in : Aim → Stream → List Block → Option Rule

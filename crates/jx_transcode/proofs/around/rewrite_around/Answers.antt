@@ -43,3 +43,6 @@ returns-in-Done-clause-misfit g c = untold _ c.written_as.result.misfit c.writte
 
 pub returns-clause-misfit : goal.returns-clause-misfit
 returns-clause-misfit g c = c.rewrite-ending.ensures.misfit _ (content_short c.args.task.now.limit c.args.file.now c.args.boxed.now c.requires.within) c.requires.left
+
+pub write_form-written-requires-clause-within : goal.write_form-written-requires-clause-within
+write_form-written-requires-clause-within g c = omega (arith, c.requires.within, c.requires.task.2)

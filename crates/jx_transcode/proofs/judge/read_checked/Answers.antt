@@ -15,7 +15,7 @@ returns-in-Ok-read_picture-clause-ok c =
     accepted_of c.args.limit c.args.file.now c.in-Ok-source_of.source.codestream.now c.in-Ok-source_of.source.from c.in-Ok-read_picture.picture.stream c.in-Ok-read_picture.picture.blocks.items c.in-Ok.ensures.ok
     (lies_has c.args.file.now c.in-Ok-source_of.source.boxed c.in-Ok-source_of.source.from c.in-Ok-source_of.source.codestream.now c.in-Ok-source_of.ensures.ok.lies) c.in-Ok-read_picture.ensures.ok
 
-pub returns-clause-err : goal.returns-clause-err
-returns-clause-err c = rw c.status_at.ensures
+pub returns-in-Err-read_picture-clause-err : goal.returns-in-Err-read_picture-clause-err
+returns-in-Err-read_picture-clause-err c = rw c.status_at.ensures
     (unfit_at c.args.limit c.args.file.now c.in-Ok-source_of.source.codestream.now c.in-Ok-source_of.source.from c.in-Err-read_picture.fault c.in-Ok.ensures.ok
     (lies_has c.args.file.now c.in-Ok-source_of.source.boxed c.in-Ok-source_of.source.from c.in-Ok-source_of.source.codestream.now c.in-Ok-source_of.ensures.ok.lies) c.in-Err-read_picture.ensures.err)

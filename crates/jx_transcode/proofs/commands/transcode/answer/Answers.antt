@@ -1,4 +1,4 @@
-use Rattle.std.proofs.Common.{◌≡◌, ◌∙◌, List, ap, arith, inl, inr, length, refl, sym}
+use Rattle.std.proofs.Common.{◌≡◌, ◌∙◌, ◌+◌, List, ap, arith, inl, inr, length, refl, sym}
 use Rattle.jx_base.specs.declared.pieces.Block.{Block}
 use Rattle.jx_rounds.proofs.FrontLemmas.{planned_few}
 use Rattle.jx_transcode.specs.declared.status.Status.TheVariants as status
@@ -137,4 +137,4 @@ returns-clause-short g c = λ done. c.in-Ok.ensures.within
 
 pub returns-clause-misfit : goal.returns-clause-misfit
 returns-clause-misfit g c = told_on _ _ c.rewrite_around.result.misfit c.rewrite_around.result.misfit (each_told c.rewrite_around.result.misfit)
-    (λ m is. inr ((lies_boxed c.args.input.now c.in-Ok.read.source.boxed c.in-Ok.read.source.from c.in-Ok.read.source.codestream.now c.in-Some.boxed c.in-Some.is c.in-Ok.ensures.source.lies).0, c.in-Ok.ensures.within, c.in-Some.boxed, (lies_boxed c.args.input.now c.in-Ok.read.source.boxed c.in-Ok.read.source.from c.in-Ok.read.source.codestream.now c.in-Some.boxed c.in-Some.is c.in-Ok.ensures.source.lies).1, is)) c.rewrite_around.ensures.misfit
+    (λ m is. inr ((lies_boxed c.args.input.now c.in-Ok.read.source.boxed c.in-Ok.read.source.from c.in-Ok.read.source.codestream.now c.in-Some.boxed c.in-Some.is c.in-Ok.ensures.source.lies).0, (c.in-Ok.ensures.within, c.in-Some.boxed, (lies_boxed c.args.input.now c.in-Ok.read.source.boxed c.in-Ok.read.source.from c.in-Ok.read.source.codestream.now c.in-Some.boxed c.in-Some.is c.in-Ok.ensures.source.lies).1, is))) c.rewrite_around.ensures.misfit

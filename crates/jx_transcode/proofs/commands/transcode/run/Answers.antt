@@ -1,5 +1,5 @@
 use Rattle.jx_transcode.proofs.OutcomeLemmas.{ends_as, ends_read, ends_refused, ends_said}
-use Rattle.std.proofs.Common.{arith}
+use Rattle.std.proofs.Common.{arith, rules}
 use Rattle.jx_rounds.proofs.WriteLemmas.{unrisen}
 use Rattle.jx_transcode.proofs.MisfitLemmas.{each_told, misfit_told, none_still, still_said, told_on, untold}
 use Rattle.jx_transcode.proofs.PositionsLemmas.{done_said, positions_told, positions_untold, unread_undone}
@@ -80,4 +80,4 @@ pub returns-in-Err-clause-misfit : goal.returns-in-Err-clause-misfit
 returns-in-Err-clause-misfit g c = untold _ c.say_ending-in-Err.result.misfit (none_still c.unread.result.misfit c.say_ending-in-Err.result.misfit _ c.unread.ensures.misfit c.say_ending-in-Err.ensures.misfit)
 
 pub answer-ending-requires-clause-task : goal.answer-ending-requires-clause-task
-answer-ending-requires-clause-task g c = λ lifetimes within. (rw c.options.ensures c.requires.wanted, omega (arith, c.reduce.ensures, c.requires.few))
+answer-ending-requires-clause-task g c = λ lifetimes within. (rw c.options.ensures c.requires.wanted, omega (arith, c.reduce.ensures, c.requires.few), search rules)
