@@ -14,7 +14,7 @@ use Rattle.jx_options.specs.declared.FormChoice.{FormChoice}
 use Rattle.jx_transcode.specs.Aims.{Aim}
 use Rattle.jx_transcode.specs.Filed.{IsAnswered, unwritten_as}
 use Rattle.jx_transcode.specs.Jp2Run.{EndsAround, EndsJp2, IsFileEnd, IsPastRules, LeavesFile, VerdictAt, file_in}
-use Rattle.jx_transcode.specs.MakeRun.{IsLastMade, IsMadeAnew, TellsMade}
+use Rattle.jx_transcode.specs.MakeRun.{IsLastMade, IsMadeAnew}
 use Rattle.jx_transcode.specs.Outcome.{IsBegun, IsMade, IsVerdict, Verdict}
 use Rattle.jx_transcode.specs.declared.status.Status.{Status}
 use Rattle.jx_transcode.specs.declared.status.Status.TheVariants as status

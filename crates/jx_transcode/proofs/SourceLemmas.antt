@@ -1,5 +1,5 @@
 -- Where a file's codestream lies, and what becomes of a file that is refused, or out of which so many resolutions can't be left.
-use Rattle.std.proofs.Common.{◌≡◌, ◌∙◌, ◌≤◌, ◌<◌, ◌+◌, ℕ, List, [], length, Option, None, Some, ap, inl, inr, refl, sym, subst, arith}
+use Rattle.std.proofs.Common.{◌≡◌, ◌∙◌, ◌≤◌, ◌+◌, ℕ, List, [], length, Option, None, Some, ap, inl, inr, refl, sym, subst, arith}
 use Rattle.jx_base.specs.Limits.{most_bytes}
 use Rattle.jx_base.specs.declared.pieces.Block.{Block}
 use Rattle.jx_codestream.specs.declared.Stream.{Stream}
@@ -18,7 +18,7 @@ use Rattle.jx_reduce.specs.declared.faults.ReduceFault.{ReduceFault}
 use Rattle.jx_reduce.specs.declared.faults.ReduceFault.TheVariants as unreduced
 use Rattle.jx_transcode.specs.Aims.{Aim}
 use Rattle.jx_transcode.specs.Filed.{IsAnswered, all_told, told_of_all}
-use Rattle.jx_transcode.specs.Jp2Run.{EndsAround, EndsJp2, IsPastRules}
+use Rattle.jx_transcode.specs.Jp2Run.{EndsJp2, IsPastRules}
 use Rattle.jx_transcode.specs.Judged.{Passes, Violates}
 use Rattle.jx_transcode.specs.Rewritten.{Reads, ReadsLeft}
 use Rattle.jx_transcode.specs.Sources.{HasCodestream, IsUnfit, LiesIn, told_of_boxes}
@@ -29,7 +29,7 @@ use Rattle.jx_transcode.proofs.DoneLemmas.{undone}
 use Rattle.jx_transcode.proofs.FiledLemmas.{untouched}
 use Rattle.jx_transcode.proofs.JudgeLemmas.{content_short}
 use Rattle.jx_transcode.proofs.ReducedLemmas.{WholeLaws, all_unread, all_unwritten, answered_unreduced}
-use Rattle.jx_transcode.proofs.RefusedLemmas.{no_plan, refused, told_unread, told_unwritten, too_long}
+use Rattle.jx_transcode.proofs.RefusedLemmas.{no_plan, refused, too_long}
 use Rattle.jx_transcode.proofs.ToldLemmas.{stop_told}
 
 -- ---- by whether the file is JP2
@@ -83,34 +83,40 @@ unfit_bare name work aim input status.WriteFault mm not is = absurd is
 violates_jp2 : (name : Text) (work : Work) (kind : FormChoice) (aim : Aim) (input : List ℕ) (number place from : ℕ) (inner : List ℕ) (at : ℕ) (mm : Meaning) → IsJp2 input → length input ≤ aim.limit → HasCodestream input from inner → place ≡ from + at
     → Violates inner number at → EndsJp2 name work kind aim input (status.Rule number place) 0 0 [] mm mm
 violates_jp2 name work kind aim input number place from inner at mm is within (inl own) e broken = absurd (own.0 is)
-violates_jp2 name work kind aim input number place from inner at mm is within (inr (jp2, boxed, found, begins, same)) e broken = inr (boxed, record {
-  within = within;
-  found = found;
-  verdict = λ v. (at, e ∙ ap (λ (n : ℕ). n + at) begins, (content_short aim.limit input boxed within, subst (λ (b : List ℕ). Violates b number at) same broken));
-  out = [];
-  tells = refl;
-  leaves = inr (undone (status.Rule number place) tt, untouched mm);
-  tape = inl refl;
-  whole = λ done. absurd (undone (status.Rule number place) tt done);
-  taped = refl;
-})
+violates_jp2 name work kind aim input number place from inner at mm is within (inr (jp2, boxed, found, begins, same)) e broken = inr (
+  boxed,
+  record {
+    within = within;
+    found = found;
+    verdict = λ v. (at, e ∙ ap (λ (n : ℕ). n + at) begins, (content_short aim.limit input boxed within, subst (λ (b : List ℕ). Violates b number at) same broken));
+    out = [];
+    tells = refl;
+    leaves = inr (undone (status.Rule number place) tt, untouched mm);
+    tape = inl refl;
+    whole = λ done. absurd (undone (status.Rule number place) tt done);
+    taped = refl;
+  },
+)
 
 passes_jp2 : (name : Text) (work : Work) (kind : FormChoice) (aim : Aim) (input : List ℕ) (number found from : ℕ) (inner : List ℕ) (mm : Meaning) → IsJp2 input → length input ≤ aim.limit → HasCodestream input from inner → Passes inner number found
     → EndsJp2 name work kind aim input (status.Limit number found) 0 0 [] mm mm
 passes_jp2 name work kind aim input number found from inner mm is within (inl own) passed = absurd (own.0 is)
 passes_jp2 name work kind aim input number found from inner mm is within (inr (jp2, boxed, lies, begins, same)) passed =
     let here : Passes (content input boxed) number found = subst (λ (b : List ℕ). Passes b number found) same passed in
-    inr (boxed, record {
-      within = within;
-      found = lies;
-      verdict = λ v. inl (inr (content_short aim.limit input boxed within, here));
-      out = [];
-      tells = inr (stop_told (content input boxed) (fault.Limit number found) here, refl);
-      leaves = inr (undone (status.Limit number found) tt, untouched mm);
-      tape = inl refl;
-      whole = λ done. absurd (undone (status.Limit number found) tt done);
-      taped = refl;
-    })
+    inr (
+      boxed,
+      record {
+        within = within;
+        found = lies;
+        verdict = λ v. inl (inr (content_short aim.limit input boxed within, here));
+        out = [];
+        tells = inr (stop_told (content input boxed) (fault.Limit number found) here, refl);
+        leaves = inr (undone (status.Limit number found) tt, untouched mm);
+        tape = inl refl;
+        whole = λ done. absurd (undone (status.Limit number found) tt done);
+        taped = refl;
+      },
+    )
 
 pub unfit_jp2 : (name : Text) (work : Work) (kind : FormChoice) (aim : Aim) (input : List ℕ) (s : Status) (mm : Meaning) → IsJp2 input → IsUnfit aim.limit input s → EndsJp2 name work kind aim input s 0 0 [] mm mm
 unfit_jp2 name work kind aim input (status.Rule number place) mm is (within, inl boxes) = boxes_refused name work kind aim input number place mm within boxes.1

@@ -21,7 +21,9 @@ use jx_base::Style;
 use jx_cli::Make;
 use jx_io::{Files, Gate, Sink, SureFiles};
 use jx_layers::LayerPlanner;
-use jx_options::{FormChoice, Marks, Options, OrderChoice, PartChoice, PrecinctChoice, RsizChoice, Work};
+use jx_options::{
+    FormChoice, Marks, Options, OrderChoice, PartChoice, PrecinctChoice, RsizChoice, Work,
+};
 use jx_rounds::{Crew, TapeEntry};
 use std::alloc::{AllocError, Global};
 use std::sync::Wait;

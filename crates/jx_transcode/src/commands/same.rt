@@ -77,7 +77,15 @@ fn compare_second<R: Threads + Sync, F: Files>(
     match read_checked(alloc, &held, limit) {
         Ok(second) => {
             let others: &[Block<'_>] = &second.picture.blocks;
-            answer_status(compare(rt, alloc, threads, stream, blocks, &second.picture.stream, others))
+            answer_status(compare(
+                rt,
+                alloc,
+                threads,
+                stream,
+                blocks,
+                &second.picture.stream,
+                others,
+            ))
         }
         Err(status) => second_status(status),
     }

@@ -52,7 +52,13 @@ fn lines_of(alloc: Global, input: &[u8], json: bool, limit: u32) -> Result<Strin
         Ok(read) => read,
         Err(status) => return Err(status),
     };
-    match text_of(alloc, input, &read.picture.stream, &read.picture.blocks, json) {
+    match text_of(
+        alloc,
+        input,
+        &read.picture.stream,
+        &read.picture.blocks,
+        json,
+    ) {
         Ok(text) => Ok(text),
         Err(_) => Err(Status::NoMemory),
     }

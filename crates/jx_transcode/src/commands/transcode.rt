@@ -90,9 +90,7 @@ fn answer<R: Threads + Wait + Sync, G: Gate + Sync, F: Files>(
     };
     match source.boxed {
         None => rewrite(crew, alloc, files, to, &left, task, planners),
-        Some(boxed) => rewrite_around(
-            crew, alloc, files, to, input, &boxed, &left, task, planners,
-        ),
+        Some(boxed) => rewrite_around(crew, alloc, files, to, input, &boxed, &left, task, planners),
     }
 }
 
@@ -180,15 +178,7 @@ pub fn run<R: Threads + Wait + Sync, F: Files, S: Sink, G: Gate + Sync>(
     match read_input(alloc, files, request.from(), task.limit) {
         Ok(held) => {
             let input: &[u8] = &held;
-            let ending = answer(
-                &crew,
-                alloc,
-                files,
-                request.to(),
-                input,
-                &task,
-                planners,
-            );
+            let ending = answer(&crew, alloc, files, request.to(), input, &task, planners);
             let positions = keeps_positions(task.form, input, ending.status);
             say_ending(alloc, say, ending, positions)
         }

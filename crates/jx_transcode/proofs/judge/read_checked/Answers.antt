@@ -1,4 +1,4 @@
-use Rattle.std.proofs.Common.{arith, inl, refl, rules}
+use Rattle.std.proofs.Common.{inl, refl}
 use Rattle.jx_transcode.proofs.JudgeLemmas.{accepted_of, unfit_at}
 use Rattle.jx_transcode.proofs.SourceLemmas.{boxes_unfit, lies_has}
 use Rattle.jx_transcode.proofs.judge.read_checked.Goals as goal

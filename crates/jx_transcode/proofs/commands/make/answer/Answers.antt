@@ -12,7 +12,7 @@ rewrite-requires-clause-work g c = λ lifetimes within. work_may c.args.crew.now
 
 pub returns-in-Ok-clause-answer : goal.returns-in-Ok-clause-answer
 returns-in-Ok-clause-answer g c = made_answered _ c.args.asked _ _ _ c.args.input.now _ _ _ _ _ _
-    (c.rewrite.ensures.answer c.args.input.now c.in-Ok.ensures.within (c.all_is_left.ensures.left c.args.input.now c.in-Ok.read.picture.stream c.in-Ok.read.picture.blocks.items (omega (arith, c.in-Ok.ensures.within)) 
+    (c.rewrite.ensures.answer c.args.input.now c.in-Ok.ensures.within (c.all_is_left.ensures.left c.args.input.now c.in-Ok.read.picture.stream c.in-Ok.read.picture.blocks.items (omega (arith, c.in-Ok.ensures.within))
     (made_reads c.args.asked c.args.input.now c.in-Ok.read.source.boxed c.in-Ok.read.source.from c.in-Ok.read.source.codestream.now _ _ c.requires.generated c.in-Ok.ensures.source.lies c.in-Ok.ensures.reads)))
     c.requires.work (rw c.requires.wanted refl) c.requires.generated
 
