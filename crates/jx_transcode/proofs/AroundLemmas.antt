@@ -13,8 +13,8 @@ use Rattle.jx_options.specs.Work.{Work}
 use Rattle.jx_options.specs.declared.FormChoice.{FormChoice}
 use Rattle.jx_transcode.specs.Aims.{Aim}
 use Rattle.jx_transcode.specs.Filed.{IsAnswered, unwritten_as}
-use Rattle.jx_transcode.specs.Jp2Run.{EndsAround, EndsJp2, IsFileEnd, LeavesFile, VerdictAt, file_in, raised}
-use Rattle.jx_transcode.specs.MakeRun.{IsLastMade, IsMadeAnew, TellsMade}
+use Rattle.jx_transcode.specs.Jp2Run.{EndsAround, EndsJp2, IsFileEnd, IsPastRules, LeavesFile, VerdictAt, file_in}
+use Rattle.jx_transcode.specs.MakeRun.{IsLastMade, IsMadeAnew}
 use Rattle.jx_transcode.specs.Outcome.{IsBegun, IsMade, IsVerdict, Verdict}
 use Rattle.jx_transcode.specs.declared.status.Status.{Status}
 use Rattle.jx_transcode.specs.declared.status.Status.TheVariants as status
@@ -22,7 +22,7 @@ use Rattle.jx_rounds.specs.declared.tape.TapeEntry.{TapeEntry}
 use Rattle.jx_transcode.proofs.DoneLemmas.{undone, unfailed}
 use Rattle.jx_transcode.proofs.FiledLemmas.{untouched}
 use Rattle.jx_transcode.proofs.MakeLemmas.{IsOutOf, out_of}
-use Rattle.jx_transcode.proofs.TapeLemmas.{raised_taped, taped_late}
+use Rattle.jx_transcode.proofs.TapeLemmas.{taped_late}
 
 -- ---- a file in pieces
 abbrev pub bytes_of : List (Bor (List ℕ)) → List ℕ
@@ -64,57 +64,17 @@ end_apart s (inr (inl e)) = (λ f. let never : status.WriteFault ≡ status.Read
 end_apart s (inr (inr e)) = (λ f. let never : status.NoMemory ≡ status.ReadFault = sym e ∙ f in cc, λ f. let never : status.NoMemory ≡ status.Words = sym e ∙ f in cc)
 
 -- ---- a codestream without an output
-raised_verdict : (aim : Aim) (from : ℕ) (inner : List ℕ) (s : Status) → (IsVerdict s → Verdict aim inner s) → IsVerdict (raised from s) → VerdictAt aim from inner (raised from s)
-raised_verdict aim from inner status.Done of v = of tt
-raised_verdict aim from inner status.Words of v = of tt
-raised_verdict aim from inner (status.Unlike how) of v = of tt
-raised_verdict aim from inner (status.Rule number place) of v = (place, refl, of tt)
-raised_verdict aim from inner (status.Limit number found) of v = of tt
-raised_verdict aim from inner (status.Choice number place) of v = of tt
-raised_verdict aim from inner (status.Block number) of v = of tt
-raised_verdict aim from inner status.ReadFault of v = absurd v
-raised_verdict aim from inner status.WriteFault of v = absurd v
-raised_verdict aim from inner status.NoMemory of v = absurd v
-
-raised_tells : (aim : Aim) (from : ℕ) (inner : List ℕ) (s : Status) (blocks : ℕ) (out : List ℕ) → TellsMade aim inner s blocks out → TellsMade aim inner (raised from s) blocks out
-raised_tells aim from inner status.Done blocks out is = is
-raised_tells aim from inner status.Words blocks out is = is
-raised_tells aim from inner (status.Unlike how) blocks out is = is
-raised_tells aim from inner (status.Rule number place) blocks out is = is
-raised_tells aim from inner (status.Limit number found) blocks out is = is
-raised_tells aim from inner (status.Choice number place) blocks out is = is
-raised_tells aim from inner (status.Block number) blocks out is = is
-raised_tells aim from inner status.ReadFault blocks out is = is
-raised_tells aim from inner status.WriteFault blocks out is = is
-raised_tells aim from inner status.NoMemory blocks out is = is
-
--- its status is the same but for a place
-abbrev pub IsNoRule : Status → Type 0
-IsNoRule status.Done = Unit {0}
-IsNoRule status.Words = Unit {0}
-IsNoRule (status.Unlike how) = Unit {0}
-IsNoRule (status.Rule number place) = ⊥
-IsNoRule (status.Limit number found) = Unit {0}
-IsNoRule (status.Choice number place) = Unit {0}
-IsNoRule (status.Block number) = Unit {0}
-IsNoRule status.ReadFault = Unit {0}
-IsNoRule status.WriteFault = Unit {0}
-IsNoRule status.NoMemory = Unit {0}
-
-rule_apart : (number place : ℕ) (t : Status) → IsNoRule t → status.Rule number place ≡ t → ⊥
-rule_apart number place t other is = subst IsNoRule (sym is) other
-
-pub raised_apart : (from : ℕ) (s t : Status) → IsNoRule t → (s ≡ t → ⊥) → raised from s ≡ t → ⊥
-raised_apart from status.Done t other not is = not is
-raised_apart from status.Words t other not is = not is
-raised_apart from (status.Unlike how) t other not is = not is
-raised_apart from (status.Rule number place) t other not is = rule_apart number (from + place) t other is
-raised_apart from (status.Limit number found) t other not is = not is
-raised_apart from (status.Choice number place) t other not is = not is
-raised_apart from (status.Block number) t other not is = not is
-raised_apart from status.ReadFault t other not is = not is
-raised_apart from status.WriteFault t other not is = not is
-raised_apart from status.NoMemory t other not is = not is
+verdict_at : (aim : Aim) (from : ℕ) (inner : List ℕ) (s : Status) → IsPastRules s → (IsVerdict s → Verdict aim inner s) → IsVerdict s → VerdictAt aim from inner s
+verdict_at aim from inner status.Done past of v = of tt
+verdict_at aim from inner status.Words past of v = of tt
+verdict_at aim from inner (status.Unlike how) past of v = of tt
+verdict_at aim from inner (status.Rule number place) past of v = absurd past
+verdict_at aim from inner (status.Limit number found) past of v = of tt
+verdict_at aim from inner (status.Choice number place) past of v = of tt
+verdict_at aim from inner (status.Block number) past of v = of tt
+verdict_at aim from inner status.ReadFault past of v = absurd v
+verdict_at aim from inner status.WriteFault past of v = absurd v
+verdict_at aim from inner status.NoMemory past of v = absurd v
 
 -- what is known of the codestream's output, which is made in memory
 pub record IsInMemory (called : Text) (work : Work) (aim : Aim) (inner : List ℕ) (s : Status) (blocks bytes : ℕ) (entries : List TapeEntry) (new : Meaning) : Type 0 where
@@ -140,20 +100,19 @@ output_of : (called : Text) (work : Work) (aim : Aim) (inner : List ℕ) (s : St
 output_of called work aim inner s blocks bytes entries new is = out_of called aim inner s blocks bytes new is.words is.read is.write is.answer.leaves
 
 pub around_refused : (name called : Text) (work : Work) (kind : FormChoice) (aim : Aim) (input : List ℕ) (boxed : Boxed) (s : Status) (blocks bytes : ℕ) (entries : List TapeEntry) (made files : Meaning) → length input ≤ aim.limit → IsCodestream input boxed
-    → IsInMemory called work aim (content input boxed) s blocks bytes entries made → (s ≡ status.Done → ⊥)
-    → EndsAround name work kind aim input boxed (raised boxed.from s) blocks 0 entries files files
-around_refused name called work kind aim input boxed s blocks bytes entries made files within found is other =
-    let o : IsOutOf called aim (content input boxed) s blocks bytes made = output_of called work aim (content input boxed) s blocks bytes entries made is in
-    let apart : raised boxed.from s ≡ status.Done → ⊥ = raised_apart boxed.from s status.Done tt other in record {
+    → IsInMemory called work aim (content input boxed) s blocks bytes entries made → IsPastRules s → (s ≡ status.Done → ⊥)
+    → EndsAround name work kind aim input boxed s blocks 0 entries files files
+around_refused name called work kind aim input boxed s blocks bytes entries made files within found is past other =
+    let o : IsOutOf called aim (content input boxed) s blocks bytes made = output_of called work aim (content input boxed) s blocks bytes entries made is in record {
       within = within;
       found = found;
-      verdict = raised_verdict aim boxed.from (content input boxed) s is.answer.verdict;
+      verdict = verdict_at aim boxed.from (content input boxed) s past is.answer.verdict;
       out = o.out;
-      tells = raised_tells aim boxed.from (content input boxed) s blocks o.out o.tells;
-      leaves = inr (apart, untouched files);
+      tells = o.tells;
+      leaves = inr (other, untouched files);
       tape = is.answer.tape;
-      whole = λ done. absurd (apart done);
-      taped = raised_taped aim.reduce (content input boxed) boxed.from s (length entries) is.answer.taped;
+      whole = λ done. absurd (other done);
+      taped = is.answer.taped;
     }
 
 -- ---- a codestream with one

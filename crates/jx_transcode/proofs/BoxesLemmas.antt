@@ -1,15 +1,25 @@
 -- Runs of `boxes`.
-use Rattle.std.proofs.Common.{◌≡◌, ℕ, List, refl}
+use Rattle.std.proofs.Common.{◌≡◌, ◌≤◌, ℕ, List, inr, length, refl}
 use Rattle.jx_io.specs.Device.{Meaning, joined}
 use Rattle.jx_cli.specs.BoxesWords.{Boxes}
+use Rattle.jx_jp2.specs.Codestream.{IsJp2}
 use Rattle.jx_jp2.specs.Lines.{HasLines}
+use Rattle.jx_jp2.specs.Trees.{IsTreeFault}
+use Rattle.jx_jp2.specs.declared.faults.BoxFault.{BoxFault}
+use Rattle.jx_jp2.specs.declared.faults.BoxFault.TheVariants as unboxed
 use Rattle.jx_transcode.specs.BoxesRun.{BoxesVerdict, IsListed, IsUnlisted}
 use Rattle.jx_transcode.specs.Outcome.{IsUntouched, line_of}
+use Rattle.jx_transcode.specs.Sources.{told_of_boxes}
 use Rattle.jx_transcode.specs.declared.status.Status.{Status}
 use Rattle.jx_transcode.specs.declared.status.Status.TheVariants as status
 use Rattle.jx_transcode.proofs.DoneLemmas.{undone}
 use Rattle.jx_transcode.proofs.LeftLemmas.{IsFront, long_whole, short_told, told_whole, whole}
 use Rattle.jx_transcode.proofs.LinesLemmas.{IsToSay}
+
+-- ---- boxes that can't be told
+pub boxes_unlisted : (limit : ℕ) (input : List ℕ) (f : BoxFault) → length input ≤ limit → IsJp2 input → IsTreeFault input f → IsUnlisted limit input (told_of_boxes f)
+boxes_unlisted limit input (unboxed.Rule number place) within is broken = (within, inr (is, broken))
+boxes_unlisted limit input unboxed.NoMemory within is broken = tt
 
 -- ---- what is to be said
 pub listed_to_say : (asked : Boxes) (read text : List ℕ) (old new : Meaning) → IsFront asked.limit (joined (old.holds asked.name)) read → IsUntouched old new → IsListed asked.limit read text → IsToSay (BoxesVerdict asked.limit) HasLines asked.name status.Done text old new

@@ -11,7 +11,7 @@ use Rattle.jx_transcode.specs.Filed.{told_by}
 use Rattle.jx_transcode.specs.Jp2Run.{raised}
 use Rattle.jx_transcode.specs.Judged.{IsInputCause}
 use Rattle.jx_transcode.specs.Rewritten.{Reads}
-use Rattle.jx_transcode.specs.SameRun.{HasCodestream, IsAccepted, IsUnfit}
+use Rattle.jx_transcode.specs.Sources.{HasCodestream, IsAccepted, IsUnfit}
 
 pub accepted_of : (limit : ℕ) (input inner : List ℕ) (from : ℕ) (s : Stream) (blocks : List Block) → length input ≤ limit → HasCodestream input from inner → Reads inner s blocks → IsAccepted limit input s blocks
 accepted_of limit input inner from s blocks short has reads = record { within = short; from = from; inner = inner; has = has; reads = reads }

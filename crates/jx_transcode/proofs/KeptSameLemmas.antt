@@ -18,7 +18,8 @@ use Rattle.jx_same.specs.declared.answer.Field.TheVariants as field
 use Rattle.jx_same.specs.declared.answer.Spot.{Spot}
 use Rattle.jx_transcode.specs.Aims.{Aim}
 use Rattle.jx_transcode.specs.Rewritten.{IsKept, ReadsLeft}
-use Rattle.jx_transcode.specs.SameRun.{HasCodestream, SameVerdict}
+use Rattle.jx_transcode.specs.SameRun.{SameVerdict}
+use Rattle.jx_transcode.specs.Sources.{HasCodestream}
 use Rattle.jx_transcode.specs.declared.status.Status.TheVariants as status
 use Rattle.jx_transcode.proofs.OneVerdictLemmas.{Laws, one_left}
 use Rattle.jx_transcode.proofs.ReducedLemmas.{WholeLaws, left_is_all}

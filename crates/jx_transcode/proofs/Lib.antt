@@ -16,6 +16,7 @@ mod ReducedLemmas
 mod LeftLemmas
 mod Jp2Lemmas
 mod AroundLemmas
+mod SourceLemmas
 mod OutcomeLemmas
 mod PositionsLemmas
 mod MisfitLemmas
@@ -27,6 +28,7 @@ mod SomeVerdictLemmas
 mod StatusLemmas
 mod WrongLemmas
 mod MakeLemmas
+mod MadeSourceLemmas
 mod LinesLemmas
 mod BoxesLemmas
 mod ShowLemmas

@@ -8,6 +8,8 @@ use Rattle.jx_layers.specs.declared.StreamFacts.{StreamFacts}
 use Rattle.jx_layers.specs.Rule.{Rule}
 use Rattle.jx_options.specs.Wanted.{MayBeWanted, Wanted}
 use Rattle.jx_cli.specs.MakeWords.{Make}
+use Rattle.jx_generate.specs.Made.{file_made, file_with}
+use Rattle.jx_jp2.specs.Codestream.{IsJp2}
 use Rattle.jx_options.specs.Work.{MayBeWork, Work}
 use Rattle.jx_transcode.specs.Aims.{Aim}
 use Rattle.jx_transcode.specs.Filed.{IsAnswered}
@@ -181,12 +183,14 @@ made_ready name m rule s blocks before bytes total entries new answer from words
       numbers = λ done. (from, o.long done, total_is name o.out (o.made done));
     }
 
-pub transcoded_ready : (name : List ℕ) (m : Make) (rule : Rules) (work : Work) (aim : Aim) (input : List ℕ) (s : Status) (blocks before bytes total : ℕ) (entries : List TapeEntry) (old new : Meaning)
-    → IsAnswered name work aim input s blocks bytes entries old new → work ≡ work_made → aim ≡ aim_made rule → input ≡ input_of m → old ≡ empty → before ≡ length input
-    → (s ≡ status.Words → ⊥) → (s ≡ status.ReadFault → ⊥) → (s ≡ status.WriteFault → ⊥) → ((last out : List ℕ) → IsLastMade last out new → total ≡ sum out) → IsReadyToSay m rule s blocks before bytes total entries
-transcoded_ready name m rule work aim input s blocks before bytes total entries old new answer e f h g from words read write total_is =
-    let by : IsAnswered name work_made aim input s blocks bytes entries old new = subst (λ (x : Work). IsAnswered name x aim input s blocks bytes entries old new) e answer in
-    let aimed : IsAnswered name work_made (aim_made rule) input s blocks bytes entries old new = subst (λ (x : Aim). IsAnswered name work_made x input s blocks bytes entries old new) f by in
-    let of : IsAnswered name work_made (aim_made rule) (input_of m) s blocks bytes entries old new = subst (λ (x : List ℕ). IsAnswered name work_made (aim_made rule) x s blocks bytes entries old new) h aimed in
-    let over : IsAnswered name work_made (aim_made rule) (input_of m) s blocks bytes entries empty new = subst (λ (x : Meaning). IsAnswered name work_made (aim_made rule) (input_of m) s blocks bytes entries x new) g of in
-    made_ready name m rule s blocks before bytes total entries new over (from ∙ ap length h) words read write total_is
+pub transcoded_ready : (name : List ℕ) (m : Make) (rule : Rules) (input : List ℕ) (s : Status) (blocks before bytes total : ℕ) (entries : List TapeEntry) (old new : Meaning)
+    → IsAnswered name work_made (aim_made rule) (input_of m) s blocks bytes entries old new → input ≡ input_of m → old ≡ empty → before ≡ length input
+    → (s ≡ status.ReadFault → ⊥) × (s ≡ status.Words → ⊥) → (s ≡ status.WriteFault → ⊥) → ((last out : List ℕ) → IsLastMade last out new → total ≡ sum out) → IsReadyToSay m rule s blocks before bytes total entries
+transcoded_ready name m rule input s blocks before bytes total entries old new answer h g from past write total_is =
+    let over : IsAnswered name work_made (aim_made rule) (input_of m) s blocks bytes entries empty new = subst (λ (x : Meaning). IsAnswered name work_made (aim_made rule) (input_of m) s blocks bytes entries x new) g answer in
+    made_ready name m rule s blocks before bytes total entries new over (from ∙ ap length h) past.1 past.0 write total_is
+
+-- ---- a generated codestream begins with SOC, and is no JP2 file
+pub made_bare : (m : Make) → IsJp2 (input_of m) → ⊥
+unfolding file_made file_with
+made_bare m is = cc

@@ -5,8 +5,6 @@ use Rattle.jx_base.specs.declared.style.Style.{Style}
 use Rattle.jx_io.specs.Device.{Meaning, joined}
 use Rattle.jx_cli.specs.Words.{Request}
 use Rattle.jx_codestream.specs.declared.Stream.{Stream}
-use Rattle.jx_jp2.specs.declared.Boxed.{Boxed}
-use Rattle.jx_jp2.specs.Codestream.{content}
 use Rattle.jx_layers.specs.Rule.{Rule}
 use Rattle.jx_plan.specs.declared.faults.Misfit.{Misfit}
 use Rattle.jx_plan.specs.declared.faults.PlanFault.{PlanFault}
@@ -16,7 +14,6 @@ use Rattle.jx_plan.specs.Fits.{AreUnfit, IsMisfitAt}
 use Rattle.jx_plan.specs.Planned.{HasPlanCause, IsUnplannedBy, LacksPlan, layers_of_rule}
 use Rattle.jx_options.specs.Wanted.{Wanted}
 use Rattle.jx_transcode.specs.Filed.{told_of_plan}
-use Rattle.jx_transcode.specs.Jp2Run.{raised}
 use Rattle.jx_transcode.specs.Misfits.{HasTile, IsChoice, IsMisfitBy, IsMisfitOf, IsMisfitOfFile, TellsMisfit}
 use Rattle.jx_transcode.specs.Outcome.{EndsAs}
 use Rattle.jx_transcode.specs.Rewritten.{ReadsLeft}
@@ -89,7 +86,7 @@ caused_tile rule s blocks w e (inl broken) = broken_tile s w.style blocks e brok
 caused_tile rule s blocks w e (inr (whole, inl unfit)) = unfit_tile s w.precincts e unfit
 caused_tile rule s blocks w e (inr (whole, inr lacks)) = lacking_tile rule s blocks w e lacks
 
--- ---- from the plan's fault to the status, to that of a JP2 file, and to what the device tells
+-- ---- from the plan's fault to the status, and to what the device tells
 pub planned_misfit : (precincts : Option (List ℕ)) (d limit : ℕ) (input : List ℕ) (stream : Stream) (blocks : List Block) (e : PlanFault) (s : Status) (m : Misfit) → length input ≤ limit → ReadsLeft d input stream blocks → s ≡ told_of_plan e
     → IsMisfitBy precincts stream e m → IsMisfitOf precincts d limit input s m
 planned_misfit precincts d limit input stream blocks (unplanned.Choice number place) s m within left told is = record {
@@ -102,11 +99,6 @@ planned_misfit precincts d limit input stream blocks (unplanned.Choice number pl
 }
 planned_misfit precincts d limit input stream blocks (unplanned.Limit number found) s m within left told is = absurd is
 planned_misfit precincts d limit input stream blocks unplanned.NoMemory s m within left told is = absurd is
-
-pub raised_misfit : (precincts : Option (List ℕ)) (d limit from : ℕ) (inner input : List ℕ) (boxed : Boxed) (s : Status) (m : Misfit) → inner ≡ content input boxed → IsMisfitOf precincts d limit inner s m
-    → IsMisfitOf precincts d limit (content input boxed) (raised from s) m
-raised_misfit precincts d limit from inner input boxed s m same is = subst (λ (b : List ℕ). IsMisfitOf precincts d limit b (raised from s) m) same
-    (record { within = is.within; stream = is.stream; read = is.read; tile = is.tile; is = ap (raised from) is.is; first = is.first })
 
 pub misfit_within : (precincts : Option (List ℕ)) (d limit : ℕ) (input : List ℕ) (s : Status) (m : Misfit) → IsMisfitOfFile precincts d limit input s m → length input ≤ limit
 misfit_within precincts d limit input s m (inl bare) = bare.1.within

@@ -42,6 +42,10 @@ module _ (laws : WholeLaws) (input : List ℕ) (s : Stream) (blocks : List Block
       let plan : MayBePlanned s blocks = planned_of reads in
       record { whole = s; all = blocks; reads = reads; free = laws.free s plan.headers; stream = sym (laws.stream s plan.headers); blocks_are = sym (laws.blocks s blocks plan) }
 
+pub all_kept : ((s : Stream) → HeadersStand s → stream_left 0 s ≡ s) → ((s : Stream) (blocks : List Block) → MayBePlanned s blocks → blocks_left 0 s blocks ≡ blocks) → ((s : Stream) → HeadersStand s → first_choice 0 s ≡ None)
+    → (input : List ℕ) (s : Stream) (blocks : List Block) → MayBePlanned s blocks → Reads input s blocks → ReadsLeft 0 input s blocks
+all_kept stream all free input s blocks plan reads = record { whole = s; all = blocks; reads = reads; free = free s plan.headers; stream = sym (stream s plan.headers); blocks_are = sym (all s blocks plan) }
+
 pub left_is_all : WholeLaws → (d : ℕ) (input : List ℕ) (s : Stream) (blocks : List Block) → length input ≤ most_bytes → d ≡ 0 → (left : ReadsLeft d input s blocks) → (s ≡ left.whole) × (blocks ≡ left.all)
 left_is_all laws d input s blocks short none left =
     let plan : MayBePlanned left.whole left.all = planned_of laws input left.whole left.all short left.reads in (

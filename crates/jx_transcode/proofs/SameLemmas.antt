@@ -10,7 +10,8 @@ use Rattle.jx_same.specs.Items.{answer_of}
 use Rattle.jx_same.specs.declared.answer.Answer.{Answer}
 use Rattle.jx_same.specs.declared.answer.Answer.TheVariants as answer
 use Rattle.jx_transcode.specs.Outcome.{EndsAs, EndsAsReadFault, IsUntouched, IsVerdict, line_of}
-use Rattle.jx_transcode.specs.SameRun.{EndsCompared, IsAccepted, IsOfFirst, IsSecondTold, IsToTell, IsUnfit, SameVerdict, SecondVerdict, TellsBlocks, answer_status, blocks_after, same_line, second_status}
+use Rattle.jx_transcode.specs.SameRun.{EndsCompared, IsOfFirst, IsSecondTold, IsToTell, SameVerdict, SecondVerdict, TellsBlocks, answer_status, blocks_after, same_line, second_status}
+use Rattle.jx_transcode.specs.Sources.{IsAccepted, IsUnfit}
 use Rattle.jx_transcode.specs.declared.status.Status.{Status}
 use Rattle.jx_transcode.specs.declared.status.Status.TheVariants as status
 use Rattle.jx_transcode.specs.declared.status.Unlike.TheVariants as unlike

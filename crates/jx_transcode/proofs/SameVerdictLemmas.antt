@@ -13,7 +13,8 @@ use Rattle.jx_transcode.specs.Aims.{Aim}
 use Rattle.jx_transcode.specs.Jp2Run.{FileVerdict}
 use Rattle.jx_transcode.specs.Judged.{Passes, Violates}
 use Rattle.jx_transcode.specs.Rewritten.{Reads}
-use Rattle.jx_transcode.specs.SameRun.{AreAnswered, BreaksLimit, BreaksRule, HasCodestream, IsAccepted, IsGoodInput, SameVerdict}
+use Rattle.jx_transcode.specs.SameRun.{AreAnswered, SameVerdict}
+use Rattle.jx_transcode.specs.Sources.{BreaksLimit, BreaksRule, HasCodestream, IsAccepted, IsGoodInput}
 use Rattle.jx_transcode.specs.declared.status.Status.{Status}
 use Rattle.jx_transcode.specs.declared.status.Status.TheVariants as status
 use Rattle.jx_transcode.specs.declared.status.Unlike.TheVariants as unlike

@@ -29,7 +29,8 @@ use Rattle.jx_same.specs.declared.answer.Field.TheVariants as field
 use Rattle.jx_same.specs.declared.answer.Spot.{Spot}
 use Rattle.jx_transcode.specs.Aims.{Aim}
 use Rattle.jx_transcode.specs.Rewritten.{IsKept}
-use Rattle.jx_transcode.specs.SameRun.{HasCodestream, SameVerdict, fewer_difference}
+use Rattle.jx_transcode.specs.SameRun.{SameVerdict, fewer_difference}
+use Rattle.jx_transcode.specs.Sources.{HasCodestream}
 use Rattle.jx_transcode.specs.declared.status.Status.TheVariants as status
 use Rattle.jx_transcode.specs.declared.status.Unlike.TheVariants as unlike
 use Rattle.jx_transcode.proofs.KeptSameLemmas.{blocks_of, canvas_self, same_number}

@@ -14,7 +14,8 @@ use Rattle.jx_transcode.specs.Aims.{Aim, MayBeAimed}
 use Rattle.jx_transcode.specs.Jp2Run.{FileVerdict, RefusesBoxes}
 use Rattle.jx_transcode.specs.Outcome.{Verdict}
 use Rattle.jx_transcode.specs.Rewritten.{ReadsLeft}
-use Rattle.jx_transcode.specs.SameRun.{AreAnswered, BreaksLimit, BreaksRule, HasCodestream, IsGoodInput, SameVerdict}
+use Rattle.jx_transcode.specs.SameRun.{AreAnswered, SameVerdict}
+use Rattle.jx_transcode.specs.Sources.{BreaksLimit, BreaksRule, HasCodestream, IsGoodInput}
 use Rattle.jx_transcode.specs.declared.status.Status.{Status}
 use Rattle.jx_transcode.specs.declared.status.Status.TheVariants as status
 use Rattle.jx_transcode.specs.declared.status.Unlike.TheVariants as unlike

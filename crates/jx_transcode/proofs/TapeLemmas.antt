@@ -8,7 +8,6 @@ use Rattle.jx_rounds.specs.Rounds.{EndWithRound}
 use Rattle.jx_rounds.specs.Tiles.{Round, blocks_in_tile, first_in_tile, next_round, round_of}
 use Rattle.jx_rounds.proofs.FrontLemmas.{blocks_are}
 use Rattle.jx_tile.specs.Totals.{block_total}
-use Rattle.jx_transcode.specs.Jp2Run.{raised}
 use Rattle.jx_transcode.specs.Rewritten.{ReadsLeft, round_start}
 use Rattle.jx_transcode.specs.RunTapes.{IsTapedAfter, IsTapedInPart, IsTapedInRounds, IsTapedToRound}
 use Rattle.jx_transcode.specs.declared.status.Status.{Status}
@@ -85,16 +84,3 @@ taped_late d input (status.Block number) entries is =
 taped_late d input status.ReadFault entries is = inl is
 taped_late d input status.WriteFault entries is = is
 taped_late d input status.NoMemory entries is = is
-
--- ---- a place of a rule that is raised
-pub raised_taped : (d : ℕ) (input : List ℕ) (from : ℕ) (s : Status) (entries : ℕ) → IsTapedAfter d input s entries → IsTapedAfter d input (raised from s) entries
-raised_taped d input from status.Done entries is = is
-raised_taped d input from status.Words entries is = is
-raised_taped d input from (status.Unlike how) entries is = is
-raised_taped d input from (status.Rule number place) entries is = is
-raised_taped d input from (status.Limit number found) entries is = is
-raised_taped d input from (status.Choice number place) entries is = is
-raised_taped d input from (status.Block number) entries is = is
-raised_taped d input from status.ReadFault entries is = is
-raised_taped d input from status.WriteFault entries is = is
-raised_taped d input from status.NoMemory entries is = is

@@ -8,6 +8,7 @@ use Rattle.jx_layers.specs.declared.StreamFacts.{StreamFacts}
 use Rattle.jx_plan.specs.Facts.{facts_of}
 use Rattle.jx_layers.specs.Rule.{Rule, layers_by}
 use Rattle.jx_options.specs.Wanted.{MayBeWanted, Wanted}
+use Rattle.jx_transcode.specs.declared.task.Task.{Task}
 
 pub record Aim : Type 0 where
   pub wanted : Wanted
@@ -16,6 +17,14 @@ pub record Aim : Type 0 where
   pub limit : ℕ
   -- what the first planner that serves the words of layers makes of them for a stream; nothing where none serves them, or it makes none
   pub rule : StreamFacts → Option Rule
+
+-- what a task asks for, with the rule that planners make of its words of layers
+abbrev pub aim_by : Task → (List ℕ → StreamFacts → Option Rule) → Aim
+aim_by task rule = record { wanted = task.options.now; reduce = task.reduce; limit = task.limit; rule = rule task.options.now.layers }
+
+-- what a task may ask for
+abbrev pub MayBeTask : Task → Type 0
+MayBeTask task = MayBeWanted task.options.now × (task.reduce ≤ 32) × (task.limit ≤ most_bytes)
 
 -- the rule for what is left of a stream, with its blocks
 abbrev pub rule_in : Aim → Stream → List Block → Option Rule

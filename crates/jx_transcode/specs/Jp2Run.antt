@@ -110,18 +110,18 @@ KeepsPositions kind input s = (s ≡ status.Done) × (kind ≡ form.Keep) × IsJ
 
 -- ---- inner
 
--- a place is a number of 32 bits
-abbrev pub IsPlaced : Status → Type 0
-IsPlaced (status.Rule number place) = place < 4294967296
-IsPlaced (status.Limit number found) = Unit {0}
-IsPlaced status.Done = Unit {0}
-IsPlaced status.Words = Unit {0}
-IsPlaced (status.Unlike how) = Unit {0}
-IsPlaced (status.Choice number place) = Unit {0}
-IsPlaced (status.Block number) = Unit {0}
-IsPlaced status.ReadFault = Unit {0}
-IsPlaced status.WriteFault = Unit {0}
-IsPlaced status.NoMemory = Unit {0}
+-- the status names no rule of the input
+abbrev pub IsPastRules : Status → Type 0
+IsPastRules (status.Rule number place) = ⊥
+IsPastRules (status.Limit number found) = Unit {0}
+IsPastRules status.Done = Unit {0}
+IsPastRules status.Words = Unit {0}
+IsPastRules (status.Unlike how) = Unit {0}
+IsPastRules (status.Choice number place) = Unit {0}
+IsPastRules (status.Block number) = Unit {0}
+IsPastRules status.ReadFault = Unit {0}
+IsPastRules status.WriteFault = Unit {0}
+IsPastRules status.NoMemory = Unit {0}
 
 -- the same status with a rule's place raised
 abbrev pub raised : ℕ → Status → Status

@@ -9,6 +9,7 @@ pub mod TranscodeRun
 pub mod MakeRun
 pub mod LinesRun
 pub mod BoxesRun
+pub mod Sources
 pub mod SameLines
 pub mod SameRun
 pub mod ShowRun

@@ -1,14 +1,12 @@
 -- How a run of `same` ends: two files are read, either of which may be a JP2 file, and one line says whether their codestreams mean the
 -- same, or why that can't be said (ITU-T T.800, Annexes A, B, D and E; I.4).
-use Rattle.std.specs.Prelude.{◌≡◌, ◌⊎◌, ◌<◌, ◌≤◌, ℕ, ◌+◌, List, [], length, Option, IfSome, Result, Ok, Err, codes}
+use Rattle.std.specs.Prelude.{◌≡◌, ◌⊎◌, ℕ, List, [], length, Option, IfSome, Result, Ok, Err, codes}
 use Rattle.jx_base.specs.declared.pieces.Block.{Block}
 use Rattle.jx_io.specs.Device.{Meaning, joined}
 use Rattle.jx_cli.specs.SameWords.{Pair}
 use Rattle.jx_cli.specs.Words.{Text}
 use Rattle.jx_marker.specs.declared.CompSize.{CompSize}
 use Rattle.jx_codestream.specs.declared.Stream.{Stream}
-use Rattle.jx_jp2.specs.declared.Boxed.{Boxed}
-use Rattle.jx_jp2.specs.Codestream.{IsCodestream, IsJp2, IsNextFault, content}
 use Rattle.jx_plan.specs.Meaning.{meaning_of}
 use Rattle.jx_reduce.specs.Reduction.{size_left}
 use Rattle.jx_same.specs.Items.{answer_of, factors_value, spot_of_component}
@@ -16,44 +14,12 @@ use Rattle.jx_same.specs.declared.answer.Answer.{Answer}
 use Rattle.jx_same.specs.declared.answer.Answer.TheVariants as answer
 use Rattle.jx_same.specs.declared.answer.Difference.{Difference}
 use Rattle.jx_same.specs.declared.answer.Field.TheVariants as field
-use Rattle.jx_transcode.specs.Judged.{Passes, Violates}
 use Rattle.jx_transcode.specs.Outcome.{IsUntouched, IsVerdict, Says, line_of}
-use Rattle.jx_transcode.specs.Rewritten.{Reads}
+use Rattle.jx_transcode.specs.Sources.{BreaksLimit, BreaksRule, IsAccepted, IsGoodInput}
 use Rattle.jx_transcode.specs.declared.status.Status.{Status}
 use Rattle.jx_transcode.specs.declared.status.Status.TheVariants as status
 use Rattle.jx_transcode.specs.declared.status.Unlike.TheVariants as unlike
 use Rattle.jx_rounds.specs.declared.tape.TapeEntry.{TapeEntry}
-
--- ---- what a file is judged before anything is made of it
--- a file's codestream begins at this byte, and these are its bytes: those of the file, or of its first codestream box
-abbrev pub HasCodestream : List ℕ → ℕ → List ℕ → Type 0
-HasCodestream input from inner =
-    ((IsJp2 input → ⊥) × (from ≡ 0) × (inner ≡ input))
-    ⊎ (IsJp2 input × (boxed : Boxed) × IsCodestream input boxed × (from ≡ boxed.from) × (inner ≡ content input boxed))
-
--- a file of so many bytes at most, with a well-formed codestream within the other limits
-pub record IsAccepted (limit : ℕ) (input : List ℕ) (s : Stream) (blocks : List Block) : Type 0 where
-  pub within : length input ≤ limit
-  pub from : ℕ
-  pub inner : List ℕ
-  pub has : HasCodestream input from inner
-  pub reads : Reads inner s blocks
-
--- the first rule that is violated: for a JP2 file one of the rules 32 to 35, then those of the codestream; the place is the file's
-abbrev pub BreaksRule : ℕ → List ℕ → ℕ → ℕ → Type 0
-BreaksRule limit input number place =
-    (length input ≤ limit)
-    × ((IsJp2 input × IsNextFault input 0 number place)
-    ⊎ ((from : ℕ) × (inner : List ℕ) × (at : ℕ) × HasCodestream input from inner × (place ≡ from + at) × Violates inner number at))
-
--- limit 1, or the limit that the codestream passes first
-abbrev pub BreaksLimit : ℕ → List ℕ → ℕ → ℕ → Type 0
-BreaksLimit limit input number found =
-    ((limit < length input) × (number ≡ 1) × (found ≡ limit + 1))
-    ⊎ ((length input ≤ limit) × (from : ℕ) × (inner : List ℕ) × HasCodestream input from inner × Passes inner number found)
-
-abbrev pub IsGoodInput : ℕ → List ℕ → Type 0
-IsGoodInput limit input = (s : Stream) × (blocks : List Block) × IsAccepted limit input s blocks
 
 -- ---- the verdict on two files
 -- both are accepted, and this is the answer over the meanings of their codestreams
@@ -120,20 +86,7 @@ abbrev pub IsOfFirst : Status → Type 0
 IsOfFirst s = ((number : ℕ) × (place : ℕ) × (s ≡ status.Rule number place)) ⊎ ((number : ℕ) × (found : ℕ) × (s ≡ status.Limit number found))
 
 -- ---- inner: what is known before anything is said
--- why a file is refused; want of memory is free
-abbrev pub IsUnfit : ℕ → List ℕ → Status → Type 0
-IsUnfit limit input (status.Rule number place) = BreaksRule limit input number place
-IsUnfit limit input (status.Limit number found) = BreaksLimit limit input number found
-IsUnfit limit input status.NoMemory = Unit {0}
-IsUnfit limit input status.Done = ⊥
-IsUnfit limit input status.Words = ⊥
-IsUnfit limit input (status.Choice number place) = ⊥
-IsUnfit limit input (status.Block number) = ⊥
-IsUnfit limit input (status.Unlike how) = ⊥
-IsUnfit limit input status.ReadFault = ⊥
-IsUnfit limit input status.WriteFault = ⊥
-
--- the same of the second file
+-- the status of a second file that is refused
 abbrev pub second_status : Status → Status
 second_status (status.Rule number place) = status.Unlike (unlike.SecondRule number place)
 second_status (status.Limit number found) = status.Unlike (unlike.SecondLimit number found)

@@ -10,7 +10,7 @@ use Rattle.jx_jp2.specs.Names.{HasNames}
 use Rattle.jx_show.specs.Facts.{facts_of}
 use Rattle.jx_show.specs.File.{file_text}
 use Rattle.jx_transcode.specs.LinesRun.{EndsInLines}
-use Rattle.jx_transcode.specs.SameRun.{BreaksLimit, BreaksRule, IsAccepted, IsGoodInput}
+use Rattle.jx_transcode.specs.Sources.{BreaksLimit, BreaksRule, IsAccepted, IsGoodInput}
 use Rattle.jx_transcode.specs.declared.status.Status.{Status}
 use Rattle.jx_transcode.specs.declared.status.Status.TheVariants as status
 use Rattle.jx_rounds.specs.declared.tape.TapeEntry.{TapeEntry}

@@ -1,27 +1,30 @@
 //! What becomes of a JP2 file: its codestream is rewritten in memory, and the file is written around it (ITU-T T.800, Annex I).
 
-ghost use Rattle.std.specs.Prelude.{◌≡◌, ◌⊎◌, ◌≤◌, ◌<◌, ◌^◌, ℕ, List, [], length, map, IfErr, IfOk, IfSome, IsErrOf, None, OnErr, OnOk};
+ghost use Rattle.std.specs.Prelude.{◌≡◌, ◌≤◌, ◌<◌, ◌^◌, ℕ, List, length, map, IfErr, IfOk, IfSome, IsErrOf, None, OnErr, OnOk};
 ghost use Rattle.std.specs.List.{concat};
 ghost use Rattle.jx_base.specs.Limits.{most_bytes};
 ghost use Rattle.jx_io.specs.Causes.{Rose};
 ghost use Rattle.jx_jp2.specs.Codestream.{IsCodestream, content};
-ghost use Rattle.jx_options.specs.Wanted.{MayBeWanted};
 ghost use Rattle.jx_options.specs.Work.{MayBeWork};
+ghost use Rattle.jx_plan.specs.Plan.{MayBePlanned};
 ghost use Rattle.jx_plan.specs.Planned.{chosen};
 ghost use Rattle.jx_rounds.specs.Taken.{SomeFront, followed_by};
-ghost use Rattle.jx_transcode.specs.Filed.{IsTooLong, unwritten_as};
-ghost use Rattle.jx_transcode.specs.Jp2Run.{EndsAround, EndsJp2, IsPlaced, file_in, raised};
+ghost use Rattle.jx_transcode.specs.Aims.{MayBeTask, aim_by};
+ghost use Rattle.jx_transcode.specs.Filed.{unwritten_as};
+ghost use Rattle.jx_transcode.specs.Jp2Run.{EndsAround, file_in};
 ghost use Rattle.jx_transcode.specs.MakeRun.{IsLastMade};
-ghost use Rattle.jx_transcode.specs.Misfits.{IsMisfitOf, IsMisfitOfJp2};
+ghost use Rattle.jx_transcode.specs.Misfits.{IsMisfitOf};
 ghost use Rattle.jx_transcode.specs.Outcome.{IsBegun, IsMade};
+ghost use Rattle.jx_transcode.specs.Rewritten.{ReadsLeft};
 
 use crate::Status;
-use crate::rewrite::{Ending, answer};
+use crate::judge::Picture;
+use crate::rewrite::{Ending, rewrite};
+use crate::task::Task;
 use jx_io::{Files, Gate, Refused, SureFiles};
-use jx_jp2::laws::codestream_lies_within;
-use jx_jp2::{BoxFault, Boxed, around, find, head_for};
+use jx_jp2::{Boxed, around, head_for};
 use jx_layers::LayerPlanner;
-use jx_options::{FormChoice, Options};
+use jx_options::FormChoice;
 use jx_rounds::{ByteWriter, Crew, TapeEntry};
 use std::alloc::Global;
 use std::sync::Wait;
@@ -150,116 +153,43 @@ fn bytes_made(files: &SureFiles) -> &[u8]
     }
 }
 
-/// A status with the place of a rule raised to that in the file.
-fn raised(status: Status, from: u32) -> Status
-    requires { IsPlaced status }
-    ensures { result ≡ raised from status }
-{
-    match status {
-        Status::Rule { number, place } => Status::Rule {
-            number,
-            place: u64::from(from) + place,
-        },
-        other => other,
-    }
-}
-
-/// The codestream of a file.
-pub fn content_of<'a>(input: &'a [u8], boxed: &Boxed) -> &'a [u8]
-    requires { IsCodestream input.now boxed.now }
-    ensures { result.now ≡ content input.entry.now boxed.now }
-{
-    codestream_lies_within();
-    &input[boxed.from as usize..boxed.to as usize]
-}
-
-/// What becomes of a file with this codestream.
-fn answer_around<R: Threads + Wait + Sync, G: Gate + Sync, F: Files>(
+/// What becomes of a JP2 file with this codestream: `picture` is what is left of it.
+pub fn rewrite_around<R: Threads + Wait + Sync, G: Gate + Sync, F: Files>(
     crew: &Crew<'_, R, G>,
     alloc: Global,
     files: &mut F,
-    input: &[u8],
-    boxed: &Boxed,
     to: &str,
-    form: FormChoice,
-    options: &Options,
-    reduce: u8,
-    limit: u32,
+    file: &[u8],
+    boxed: &Boxed,
+    picture: &Picture<'_>,
+    task: &Task<'_>,
     planners: &mut [Box<dyn LayerPlanner>],
 ) -> Ending
     requires creates { F.can_create files.old to.now }
-    requires within { length input.now ≤ limit }
-    requires found { IsCodestream input.now boxed.now }
-    requires wanted { MayBeWanted options.now }
-    requires few { reduce ≤ 32 }
+    requires within { length file.now ≤ task.now.limit }
+    requires found { IsCodestream file.now boxed.now }
+    requires left { ReadsLeft task.now.reduce (content file.now boxed.now) picture.now.stream picture.now.blocks.items }
+    requires may { MayBePlanned picture.now.stream picture.now.blocks.items }
+    requires task { MayBeTask task.now }
     requires work { MayBeWork crew.now.work }
-    ensures answer { EndsAround to.now crew.now.work form (record { wanted = options.now; reduce = reduce; limit = limit; rule = λ facts. chosen (λ b. serves_text b options.now.layers) (λ b. rule_of b options.now.layers facts) planners.old }) input.now boxed.now result.status result.blocks result.bytes result.tape.items (F.meaning files.old) (F.meaning files.new) }
+    ensures answer { EndsAround to.now crew.now.work task.now.form
+        (aim_by task.now (λ text facts. chosen (λ b. serves_text b text) (λ b. rule_of b text facts) planners.old))
+        file.now boxed.now result.status result.blocks result.bytes result.tape.items (F.meaning files.old) (F.meaning files.new) }
     ensures cause { result.status ≡ Status.WriteFault → Rose (F.write_faults files.old) (F.write_faults files.new) }
     ensures rose { F.write_faults files.old < F.write_faults files.new → result.status ≡ Status.WriteFault }
     ensures read { (result.status ≡ Status.ReadFault → ⊥) × (result.status ≡ Status.Words → ⊥) }
     ensures other { F.read_faults files.new ≡ F.read_faults files.old }
-    ensures misfit { IfSome result.misfit (λ misfit. IsMisfitOf options.now.precincts reduce limit (content input.now boxed.now) result.status misfit) }
+    ensures misfit { IfSome result.misfit (λ misfit.
+        IsMisfitOf task.now.options.now.precincts task.now.reduce task.now.limit (content file.now boxed.now) result.status misfit) }
 {
-    let inner = content_of(input, boxed);
     let mut made = SureFiles::new(alloc);
-    let ending = answer(
-        crew, alloc, &mut made, inner, "", options, reduce, limit, planners,
-    );
+    let ending = rewrite(crew, alloc, &mut made, "", picture, task, planners);
     match ending.status {
         Status::Done => {
             let out = bytes_made(&made);
-            let written = write_form(files, to, form, input, boxed, out);
+            let written = write_form(files, to, task.form, file, boxed, out);
             written_as(written, ending.blocks, ending.tape)
         }
-        _ => Ending {
-            status: raised(ending.status, boxed.from),
-            blocks: ending.blocks,
-            bytes: 0,
-            tape: ending.tape,
-            misfit: ending.misfit,
-        },
-    }
-}
-
-/// What becomes of a JP2 file that may have `limit` bytes, of which these were read.
-pub fn answer_jp2<R: Threads + Wait + Sync, G: Gate + Sync, F: Files>(
-    crew: &Crew<'_, R, G>,
-    alloc: Global,
-    files: &mut F,
-    input: &[u8],
-    to: &str,
-    form: FormChoice,
-    options: &Options,
-    reduce: u8,
-    limit: u32,
-    planners: &mut [Box<dyn LayerPlanner>],
-) -> Ending
-    requires creates { F.can_create files.old to.now }
-    requires wanted { MayBeWanted options.now }
-    requires few { reduce ≤ 32 }
-    requires work { MayBeWork crew.now.work }
-    ensures answer { EndsJp2 to.now crew.now.work form (record { wanted = options.now; reduce = reduce; limit = limit; rule = λ facts. chosen (λ b. serves_text b options.now.layers) (λ b. rule_of b options.now.layers facts) planners.old }) input.now result.status result.blocks result.bytes result.tape.items (F.meaning files.old) (F.meaning files.new) }
-    ensures long { limit < length input.now → IsTooLong limit result.status result.blocks result.bytes result.tape.items (F.meaning files.old) (F.meaning files.new) }
-    ensures cause { result.status ≡ Status.WriteFault → Rose (F.write_faults files.old) (F.write_faults files.new) }
-    ensures rose { F.write_faults files.old < F.write_faults files.new → result.status ≡ Status.WriteFault }
-    ensures read { (result.status ≡ Status.ReadFault → ⊥) × (result.status ≡ Status.Words → ⊥) }
-    ensures other { F.read_faults files.new ≡ F.read_faults files.old }
-    ensures misfit { IfSome result.misfit (λ misfit. IsMisfitOfJp2 options.now.precincts reduce limit input.now result.status misfit) }
-{
-    if input.len() > limit as usize {
-        return Ending::refused(alloc, Status::too_long(limit));
-    }
-    match find(input) {
-        Ok(boxed) => answer_around(
-            crew, alloc, files, input, &boxed, to, form, options, reduce, limit, planners,
-        ),
-        Err(BoxFault::Rule { number, place }) => Ending::refused(
-            alloc,
-            Status::Rule {
-                number,
-                place: u64::from(place),
-            },
-        ),
-        Err(BoxFault::NoMemory) => Ending::refused(alloc, Status::NoMemory),
+        _ => Ending { bytes: 0, ..ending },
     }
 }

@@ -1,71 +1,57 @@
-//! What an input is judged before anything is made of it: a codestream with its code-blocks, or the first rule that it violates or limit
+//! What a file is judged before anything is made of it: its codestream with the code-blocks, or the first rule that it violates or limit
 //! that it passes.
 
-ghost use Rattle.std.specs.Prelude.{◌≡◌, ◌≤◌, ℕ, IfErr, IfOk, length};
+ghost use Rattle.std.specs.Prelude.{◌≡◌, ◌+◌, ◌<◌, ◌≤◌, ℕ, IfErr, IfOk, IsErrOf, OnOk, length};
 ghost use Rattle.jx_base.specs.Limits.{most_bytes};
 ghost use Rattle.jx_plan.specs.Plan.{MayBePlanned};
 ghost use Rattle.jx_transcode.specs.Filed.{told_by};
 ghost use Rattle.jx_transcode.specs.Jp2Run.{raised};
 ghost use Rattle.jx_transcode.specs.Judged.{IsInputCause};
 ghost use Rattle.jx_transcode.specs.Rewritten.{Reads};
-ghost use Rattle.jx_transcode.specs.SameRun.{HasCodestream, IsAccepted, IsUnfit};
+ghost use Rattle.jx_transcode.specs.Sources.{IsAccepted, IsSource, IsUnfit};
 
 use crate::Status;
-use crate::around::content_of;
+use crate::source::{Source, check_length, source_of, status_of_boxes};
 use jx_base::Block;
 use jx_codestream::{Stream, StreamFault, read_stream};
-use jx_jp2::{BoxFault, find, is_jp2};
 use jx_plan::laws::gathered_may_be_planned;
 use jx_tier2_reader::gather;
 use std::alloc::Global;
 
-/// A codestream that was read, with its code-blocks.
+/// The headers and the code-blocks of a codestream, or of what is left of it.
 #[derive(Drop)]
-pub struct Accepted<'a> {
+pub struct Picture<'a> {
     pub stream: Stream,
     pub blocks: Vec<Block<'a>>,
 }
 
-/// The codestream of these bytes.
-fn read_whole<'a>(alloc: Global, inner: &'a [u8]) -> Result<Accepted<'a>, StreamFault>
-    requires within { length inner.now ≤ most_bytes }
-    ensures ok { IfOk result (λ read. Reads inner.entry.now read.stream read.blocks.items) }
+/// A file whose codestream was read.
+#[derive(Drop)]
+pub struct Accepted<'a> {
+    pub source: Source<'a>,
+    pub picture: Picture<'a>,
+}
+
+/// Reads a codestream, and gathers its code-blocks.
+fn read_picture<'a>(alloc: Global, codestream: &'a [u8]) -> Result<Picture<'a>, StreamFault>
+    requires within { length codestream.now ≤ most_bytes }
+    ensures ok { IfOk result (λ read. Reads codestream.entry.now read.stream read.blocks.items) }
     ensures may { IfOk result (λ read. MayBePlanned read.stream read.blocks.items) }
-    ensures err { IfErr result (λ fault. IsInputCause inner.entry.now fault) }
+    ensures err { IfErr result (λ fault. IsInputCause codestream.entry.now fault) }
 {
     gathered_may_be_planned();
-    let stream = match read_stream(alloc, inner) {
+    let stream = match read_stream(alloc, codestream) {
         Ok(stream) => stream,
         Err(fault) => return Err(fault),
     };
-    match gather(alloc, inner, &stream) {
-        Ok(blocks) => Ok(Accepted { stream, blocks }),
+    match gather(alloc, codestream, &stream) {
+        Ok(blocks) => Ok(Picture { stream, blocks }),
         Err(fault) => Err(fault),
     }
 }
 
-/// Where a file's codestream begins, and its bytes.
-fn codestream_of<'a>(input: &'a [u8]) -> Result<(u32, &'a [u8]), Status>
-    requires within { length input.now ≤ most_bytes }
-    ensures ok { IfOk result (λ found. HasCodestream input.entry.now found.0 found.1.now) }
-    ensures within { IfOk result (λ found. length found.1.now ≤ most_bytes) }
-    ensures err { IfErr result (λ status. (limit : ℕ) → length input.entry.now ≤ limit → IsUnfit limit input.entry.now status) }
-{
-    if !is_jp2(input) {
-        return Ok((0, input));
-    }
-    match find(input) {
-        Ok(boxed) => Ok((boxed.from, content_of(input, &boxed))),
-        Err(BoxFault::Rule { number, place }) => Err(Status::Rule {
-            number,
-            place: u64::from(place),
-        }),
-        Err(BoxFault::NoMemory) => Err(Status::NoMemory),
-    }
-}
-
 /// The status of a fault in a codestream that begins at a byte of the file.
-fn told_at(from: u32, fault: StreamFault) -> Status
+fn status_at(from: u32, fault: StreamFault) -> Status
     ensures { result ≡ raised from (told_by fault) }
 {
     match fault {
@@ -78,22 +64,30 @@ fn told_at(from: u32, fault: StreamFault) -> Status
     }
 }
 
-/// The codestream of a file that may have `limit` bytes, of which these were read; or limit 1, one of the rules 32 to 35 of a JP2 file, or
-/// the first rule that the codestream violates or limit that it passes, a rule with its place in the file.
-pub fn accept<'a>(alloc: Global, input: &'a [u8], limit: u32) -> Result<Accepted<'a>, Status>
-    ensures ok { IfOk result (λ read. IsAccepted limit input.entry.now read.stream read.blocks.items) }
-    ensures may { IfOk result (λ read. MayBePlanned read.stream read.blocks.items) }
-    ensures err { IfErr result (λ status. IsUnfit limit input.entry.now status) }
+/// Reads the codestream of a file that may have `limit` bytes, of which these were read.
+///
+/// # Errors
+/// Limit 1, then one of the rules 32 to 35 of a JP2 file, then the first rule that the codestream violates or limit that it passes; a rule
+/// with its place in the file. `NoMemory` where memory is refused.
+pub fn read_checked<'a>(alloc: Global, file: &'a [u8], limit: u32) -> Result<Accepted<'a>, Status>
+    ensures ok { IfOk result (λ read. IsAccepted limit file.entry.now read.picture.stream read.picture.blocks.items) }
+    ensures source { IfOk result (λ read. IsSource file.entry.now read.source) }
+    ensures reads { IfOk result (λ read. Reads read.source.codestream.now read.picture.stream read.picture.blocks.items) }
+    ensures may { IfOk result (λ read. MayBePlanned read.picture.stream read.picture.blocks.items) }
+    ensures within { OnOk result (length file.entry.now ≤ limit) }
+    ensures err { IfErr result (λ status. IsUnfit limit file.entry.now status) }
+    ensures long { limit < length file.entry.now → IsErrOf result (Status.Limit 1 (limit + 1)) }
 {
-    if input.len() > limit as usize {
-        return Err(Status::too_long(limit));
-    }
-    let (from, inner) = match codestream_of(input) {
-        Ok(found) => found,
+    match check_length(file, limit) {
+        Ok(()) => {}
         Err(status) => return Err(status),
+    }
+    let source = match source_of(file) {
+        Ok(source) => source,
+        Err(fault) => return Err(status_of_boxes(fault)),
     };
-    match read_whole(alloc, inner) {
-        Ok(read) => Ok(read),
-        Err(fault) => Err(told_at(from, fault)),
+    match read_picture(alloc, source.codestream) {
+        Ok(picture) => Ok(Accepted { source, picture }),
+        Err(fault) => Err(status_at(source.from, fault)),
     }
 }

@@ -13,7 +13,9 @@ mod lines;
 mod program;
 mod rewrite;
 mod say;
+mod source;
 mod status;
+mod task;
 
 pub use jx_rounds::TapeEntry;
 pub use program::run;

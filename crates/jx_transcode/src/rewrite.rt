@@ -1,34 +1,35 @@
-//! What becomes of an input whose bytes were read.
+//! What becomes of a codestream that was read: its highest resolutions are left out, its output is planned, and it is written.
 
-ghost use Rattle.std.specs.Prelude.{◌≡◌, ◌<◌, ◌≤◌, ℕ, List, [], length, IfSome, None, Some};
+ghost use Rattle.std.specs.Prelude.{◌≡◌, ◌<◌, ◌≤◌, ℕ, List, [], length, IfErr, IfOk, IfSome, None, Some};
 ghost use Rattle.jx_io.specs.Causes.{Rose};
 ghost use Rattle.jx_codestream.specs.InRange.{StreamInRange};
-ghost use Rattle.jx_codestream.specs.Read.{IsRead};
 ghost use Rattle.jx_plan.specs.Plan.{MayBePlanned};
 ghost use Rattle.jx_plan.specs.Planned.{chosen};
-ghost use Rattle.jx_options.specs.Wanted.{MayBeWanted};
 ghost use Rattle.jx_options.specs.Work.{MayBeWork};
+ghost use Rattle.jx_reduce.specs.Unreducible.{IsUnreducible};
 ghost use Rattle.jx_workers.specs.Told.{anew_in};
-ghost use Rattle.jx_transcode.specs.Filed.{IsAnswered, IsEndOf, IsTooLong, all_told, blocks_told, status_of, told_by, told_of_all, told_of_plan};
-ghost use Rattle.jx_transcode.specs.Jp2Run.{IsPlaced};
+ghost use Rattle.jx_transcode.specs.Aims.{MayBeTask, aim_by};
+ghost use Rattle.jx_transcode.specs.Filed.{IsAnswered, IsEndOf, all_told, blocks_told, status_of, told_of_all, told_of_plan};
+ghost use Rattle.jx_transcode.specs.Jp2Run.{IsPastRules};
 ghost use Rattle.jx_transcode.specs.Misfits.{HasTile, IsMisfitBy, IsMisfitOf};
-ghost use Rattle.jx_transcode.specs.Rewritten.{ReadsLeft};
-ghost use Rattle.jx_base.specs.Limits.{most_blocks, most_bytes};
+ghost use Rattle.jx_transcode.specs.Rewritten.{Reads, ReadsLeft};
+ghost use Rattle.jx_base.specs.Limits.{most_blocks};
 
 use crate::Status;
 use crate::file::write_file;
+use crate::judge::Picture;
+use crate::task::Task;
 use jx_base::Block;
 use jx_codeblock::Job;
-use jx_codestream::{Stream, StreamFault, read_stream};
+use jx_codestream::Stream;
 use jx_io::{Files, Gate};
 use jx_layers::LayerPlanner;
 use jx_options::Options;
-use jx_plan::laws::{gathered_may_be_planned, plans_write_these_blocks, read_headers_stand};
+use jx_plan::laws::{plans_write_these_blocks, read_headers_stand};
 use jx_plan::{Misfit, PlanFault, first_misfit, plan_served, shortened};
 use jx_reduce::ReduceFault;
 use jx_reduce::laws::{left_means, whole_stays};
 use jx_rounds::{Crew, Halt, TapeEntry};
-use jx_tier2_reader::gather;
 use jx_tier2_writer::laws::{one_output, rewritten_is_read};
 use std::alloc::Global;
 use std::sync::Wait;
@@ -68,7 +69,7 @@ impl Ending {
 /// The status of a file that wasn't written to its end.
 fn status_of(halt: Halt) -> Status
     ensures status { result ≡ status_of halt }
-    ensures placed { IsPlaced result }
+    ensures past { IsPastRules result }
 {
     match halt {
         Halt::Bad { tile: _, number } => Status::Block { number },
@@ -84,7 +85,7 @@ fn status_of(halt: Halt) -> Status
 /// How a run ends whose file was written, or wasn't to its end, with the entries of the rounds that were.
 fn ending_of(written: Result<usize, Halt>, blocks: u32, tape: Vec<TapeEntry>) -> Ending
     ensures ends { IsEndOf written result.status result.bytes }
-    ensures placed { IsPlaced result.status }
+    ensures past { IsPastRules result.status }
     ensures blocks { result.blocks ≡ blocks }
     ensures tape { result.tape.items ≡ tape.items }
     ensures misfit { result.misfit ≡ None }
@@ -125,7 +126,7 @@ fn misfit_of(alloc: Global, stream: &Stream, options: &Options, fault: PlanFault
 /// A plan that can't be had of an input with so many code-blocks, and what is told beside choice 2.
 fn unplanned_by(alloc: Global, fault: PlanFault, blocks: u32, misfit: Option<Misfit>) -> Ending
     ensures status { result.status ≡ told_of_plan fault }
-    ensures placed { IsPlaced result.status }
+    ensures past { IsPastRules result.status }
     ensures blocks { (result.blocks ≡ blocks_told fault blocks) × (result.bytes ≡ 0) }
     ensures tape { result.tape.items ≡ [] }
     ensures misfit { IfSome result.misfit (λ told. misfit ≡ Some told) }
@@ -149,30 +150,6 @@ fn unplanned_by(alloc: Global, fault: PlanFault, blocks: u32, misfit: Option<Mis
     }
 }
 
-/// A rule that is violated, or a limit that is passed, in the headers or the tile data.
-fn refused_by(alloc: Global, fault: StreamFault) -> Ending
-    ensures status { result.status ≡ told_by fault }
-    ensures placed { IsPlaced result.status }
-    ensures none { (result.blocks ≡ 0) × (result.bytes ≡ 0) }
-    ensures tape { result.tape.items ≡ [] }
-    ensures misfit { result.misfit ≡ None }
-{
-    match fault {
-        StreamFault::Rule { number, place } => Ending::refused(
-            alloc,
-            Status::Rule {
-                number,
-                place: u64::from(place),
-            },
-        ),
-        StreamFault::Limit { number, found } => Ending::refused(
-            alloc,
-            Status::Limit { number, found },
-        ),
-        StreamFault::NoMemory => Ending::refused(alloc, Status::NoMemory),
-    }
-}
-
 /// How many of the blocks are coded anew.
 fn anew_in(jobs: &[Job<'_>]) -> u32
     requires { length jobs.now ≤ most_blocks }
@@ -187,10 +164,10 @@ fn anew_in(jobs: &[Job<'_>]) -> u32
     count
 }
 
-/// Resolutions that can't be left out of an input with so many code-blocks: choice 8 or choice 9.
-fn unreduced_by(alloc: Global, fault: ReduceFault, blocks: u32) -> Ending
+/// Resolutions that can't be left out of a picture with so many code-blocks: choice 8 or choice 9.
+pub fn unreduced_by(alloc: Global, fault: ReduceFault, blocks: u32) -> Ending
     ensures status { result.status ≡ told_of_all fault }
-    ensures placed { IsPlaced result.status }
+    ensures past { IsPastRules result.status }
     ensures blocks { (result.blocks ≡ all_told fault blocks) × (result.bytes ≡ 0) }
     ensures tape { result.tape.items ≡ [] }
     ensures misfit { result.misfit ≡ None }
@@ -207,38 +184,65 @@ fn unreduced_by(alloc: Global, fault: ReduceFault, blocks: u32) -> Ending
     }
 }
 
-/// What becomes of what is left of an input: its output is planned and written.
-fn rewrite_left<R: Threads + Wait + Sync, G: Gate + Sync, F: Files>(
+/// Leaves the highest resolutions out of a picture, 0 to 32 of them. With 0 nothing is copied.
+pub fn without_resolutions<'a>(
+    alloc: Global,
+    picture: Picture<'a>,
+    reduce: u8,
+) -> Result<Picture<'a>, ReduceFault>
+    requires may { MayBePlanned picture.stream picture.blocks.items }
+    requires few { reduce ≤ 32 }
+    ensures ok { IfOk result (λ left. (input : List ℕ) → Reads input picture.entry.stream picture.entry.blocks.items
+        → ReadsLeft reduce input left.stream left.blocks.items) }
+    ensures may { IfOk result (λ left. MayBePlanned left.stream left.blocks.items) }
+    ensures err { IfErr result (λ fault. IsUnreducible reduce picture.entry.stream fault) }
+{
+    whole_stays();
+    if reduce == 0 {
+        return Ok(picture);
+    }
+    match jx_reduce::reduce(alloc, &picture.stream, &picture.blocks, reduce) {
+        Ok((stream, blocks)) => Ok(Picture { stream, blocks }),
+        Err(fault) => Err(fault),
+    }
+}
+
+/// Plans the output of a picture and writes it under a name.
+pub fn rewrite<R: Threads + Wait + Sync, G: Gate + Sync, F: Files>(
     crew: &Crew<'_, R, G>,
     alloc: Global,
     files: &mut F,
-    stream: &Stream,
-    blocks: &[Block<'_>],
     to: &str,
-    options: &Options,
+    picture: &Picture<'_>,
+    task: &Task<'_>,
     planners: &mut [Box<dyn LayerPlanner>],
 ) -> Ending
     requires creates { F.can_create files.old to.now }
-    requires may { MayBePlanned stream.now blocks.now }
-    requires wanted { MayBeWanted options.now }
+    requires may { MayBePlanned picture.now.stream picture.now.blocks.items }
+    requires task { MayBeTask task.now }
     requires work { MayBeWork crew.now.work }
-    ensures answer { (d limit : ℕ) (input : List ℕ) → length input ≤ limit → ReadsLeft d input stream.now blocks.now → IsAnswered to.now crew.now.work (record { wanted = options.now; reduce = d; limit = limit; rule = λ facts. chosen (λ b. serves_text b options.now.layers) (λ b. rule_of b options.now.layers facts) planners.old }) input result.status result.blocks result.bytes result.tape.items (F.meaning files.old) (F.meaning files.new) }
+    ensures answer { (input : List ℕ) → length input ≤ task.now.limit → ReadsLeft task.now.reduce input picture.now.stream picture.now.blocks.items
+        → IsAnswered to.now crew.now.work (aim_by task.now (λ text facts. chosen (λ b. serves_text b text) (λ b. rule_of b text facts) planners.old))
+        input result.status result.blocks result.bytes result.tape.items (F.meaning files.old) (F.meaning files.new) }
     ensures cause { result.status ≡ Status.WriteFault → Rose (F.write_faults files.old) (F.write_faults files.new) }
     ensures rose { F.write_faults files.old < F.write_faults files.new → result.status ≡ Status.WriteFault }
     ensures read { (result.status ≡ Status.ReadFault → ⊥) × (result.status ≡ Status.Words → ⊥) }
-    ensures placed { IsPlaced result.status }
+    ensures past { IsPastRules result.status }
     ensures other { F.read_faults files.new ≡ F.read_faults files.old }
-    ensures misfit { (d limit : ℕ) (input : List ℕ) → length input ≤ limit → ReadsLeft d input stream.now blocks.now → IfSome result.misfit (λ misfit. IsMisfitOf options.now.precincts d limit input result.status misfit) }
+    ensures misfit { (input : List ℕ) → length input ≤ task.now.limit → ReadsLeft task.now.reduce input picture.now.stream picture.now.blocks.items
+        → IfSome result.misfit (λ misfit. IsMisfitOf task.now.options.now.precincts task.now.reduce task.now.limit input result.status misfit) }
 {
     read_headers_stand();
     plans_write_these_blocks();
     rewritten_is_read();
     left_means();
     one_output();
-    let plan = match plan_served(alloc, stream, shortened(blocks), options, planners) {
+    let blocks: &[Block<'_>] = &picture.blocks;
+    let options = task.options;
+    let plan = match plan_served(alloc, &picture.stream, shortened(blocks), options, planners) {
         Ok(plan) => plan,
         Err(fault) => {
-            let misfit = misfit_of(alloc, stream, options, fault);
+            let misfit = misfit_of(alloc, &picture.stream, options, fault);
             return unplanned_by(alloc, fault, blocks.len() as u32, misfit);
         }
     };
@@ -249,86 +253,4 @@ fn rewrite_left<R: Threads + Wait + Sync, G: Gate + Sync, F: Files>(
     let written = write_file(crew, alloc, files, to, &plan, &mut tape);
     crew.gate.end();
     ending_of(written, count, tape)
-}
-
-/// What becomes of the input of a stream without its `reduce` highest resolutions, 0 to 32. With 0 nothing is copied.
-fn rewrite<R: Threads + Wait + Sync, G: Gate + Sync, F: Files>(
-    crew: &Crew<'_, R, G>,
-    alloc: Global,
-    files: &mut F,
-    input: &[u8],
-    stream: &Stream,
-    to: &str,
-    options: &Options,
-    reduce: u8,
-    planners: &mut [Box<dyn LayerPlanner>],
-) -> Ending
-    requires creates { F.can_create files.old to.now }
-    requires within { length input.now ≤ most_bytes }
-    requires read { IsRead input.now stream.now }
-    requires wanted { MayBeWanted options.now }
-    requires few { reduce ≤ 32 }
-    requires work { MayBeWork crew.now.work }
-    ensures answer { (limit : ℕ) → length input.now ≤ limit → IsAnswered to.now crew.now.work (record { wanted = options.now; reduce = reduce; limit = limit; rule = λ facts. chosen (λ b. serves_text b options.now.layers) (λ b. rule_of b options.now.layers facts) planners.old }) input.now result.status result.blocks result.bytes result.tape.items (F.meaning files.old) (F.meaning files.new) }
-    ensures cause { result.status ≡ Status.WriteFault → Rose (F.write_faults files.old) (F.write_faults files.new) }
-    ensures rose { F.write_faults files.old < F.write_faults files.new → result.status ≡ Status.WriteFault }
-    ensures read { (result.status ≡ Status.ReadFault → ⊥) × (result.status ≡ Status.Words → ⊥) }
-    ensures placed { IsPlaced result.status }
-    ensures other { F.read_faults files.new ≡ F.read_faults files.old }
-    ensures misfit { (limit : ℕ) → length input.now ≤ limit → IfSome result.misfit (λ misfit. IsMisfitOf options.now.precincts reduce limit input.now result.status misfit) }
-{
-    gathered_may_be_planned();
-    whole_stays();
-    let blocks = match gather(alloc, input, stream) {
-        Ok(blocks) => blocks,
-        Err(fault) => return refused_by(alloc, fault),
-    };
-    let all: &[Block<'_>] = &blocks;
-    if reduce == 0 {
-        return rewrite_left(crew, alloc, files, stream, all, to, options, planners);
-    }
-    match jx_reduce::reduce(alloc, stream, all, reduce) {
-        Ok(left) => {
-            drop(blocks);
-            let few: &[Block<'_>] = &left.1;
-            rewrite_left(crew, alloc, files, &left.0, few, to, options, planners)
-        }
-        Err(fault) => unreduced_by(alloc, fault, all.len() as u32),
-    }
-}
-
-/// What becomes of a codestream that may have `limit` bytes, of which these were read.
-pub fn answer<R: Threads + Wait + Sync, G: Gate + Sync, F: Files>(
-    crew: &Crew<'_, R, G>,
-    alloc: Global,
-    files: &mut F,
-    input: &[u8],
-    to: &str,
-    options: &Options,
-    reduce: u8,
-    limit: u32,
-    planners: &mut [Box<dyn LayerPlanner>],
-) -> Ending
-    requires creates { F.can_create files.old to.now }
-    requires wanted { MayBeWanted options.now }
-    requires few { reduce ≤ 32 }
-    requires work { MayBeWork crew.now.work }
-    ensures answer { IsAnswered to.now crew.now.work (record { wanted = options.now; reduce = reduce; limit = limit; rule = λ facts. chosen (λ b. serves_text b options.now.layers) (λ b. rule_of b options.now.layers facts) planners.old }) input.now result.status result.blocks result.bytes result.tape.items (F.meaning files.old) (F.meaning files.new) }
-    ensures long { limit < length input.now → IsTooLong limit result.status result.blocks result.bytes result.tape.items (F.meaning files.old) (F.meaning files.new) }
-    ensures cause { result.status ≡ Status.WriteFault → Rose (F.write_faults files.old) (F.write_faults files.new) }
-    ensures rose { F.write_faults files.old < F.write_faults files.new → result.status ≡ Status.WriteFault }
-    ensures read { (result.status ≡ Status.ReadFault → ⊥) × (result.status ≡ Status.Words → ⊥) }
-    ensures placed { IsPlaced result.status }
-    ensures other { F.read_faults files.new ≡ F.read_faults files.old }
-    ensures misfit { IfSome result.misfit (λ misfit. IsMisfitOf options.now.precincts reduce limit input.now result.status misfit) }
-{
-    if input.len() > limit as usize {
-        return Ending::refused(alloc, Status::too_long(limit));
-    }
-    match read_stream(alloc, input) {
-        Ok(stream) => rewrite(
-            crew, alloc, files, input, &stream, to, options, reduce, planners,
-        ),
-        Err(fault) => refused_by(alloc, fault),
-    }
 }

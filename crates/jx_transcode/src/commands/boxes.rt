@@ -7,10 +7,11 @@ ghost use Rattle.jx_transcode.specs.Outcome.{EndsAsReadFault};
 
 use crate::input::{read_input, unread_as};
 use crate::say::{refuse, say_lines};
+use crate::source::{check_length, status_of_boxes};
 use crate::{Report, Status};
 use jx_cli::Boxes;
 use jx_io::{Files, Sink};
-use jx_jp2::{BoxFault, is_jp2, list};
+use jx_jp2::{is_jp2, list};
 use std::alloc::Global;
 
 /// The lines of all boxes of a file that may have `limit` bytes, of which these were read; or why there are none.
@@ -18,8 +19,9 @@ fn lines_of(alloc: Global, input: &[u8], limit: u32) -> Result<String, Status>
     ensures listed { IfOk result (λ text. IsListed limit input.now (string_bytes text)) }
     ensures refused { IfErr result (λ status. IsUnlisted limit input.now status) }
 {
-    if input.len() > limit as usize {
-        return Err(Status::too_long(limit));
+    match check_length(input, limit) {
+        Ok(()) => {}
+        Err(status) => return Err(status),
     }
     if !is_jp2(input) {
         return Err(Status::Rule {
@@ -29,11 +31,7 @@ fn lines_of(alloc: Global, input: &[u8], limit: u32) -> Result<String, Status>
     }
     match list(alloc, input) {
         Ok(lines) => Ok(lines),
-        Err(BoxFault::Rule { number, place }) => Err(Status::Rule {
-            number,
-            place: u64::from(place),
-        }),
-        Err(BoxFault::NoMemory) => Err(Status::NoMemory),
+        Err(fault) => Err(status_of_boxes(fault)),
     }
 }
 

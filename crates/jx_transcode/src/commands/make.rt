@@ -1,23 +1,29 @@
 //! `make`: a generated codestream is transcoded in memory, and no file is touched.
 
-ghost use Rattle.std.specs.Prelude.{◌≡◌, ◌<◌, ℕ, List, IfOk, false, string_bytes};
+ghost use Rattle.std.specs.Prelude.{◌≡◌, ◌<◌, ℕ, List, [], IfOk, false, string_bytes};
 ghost use Rattle.std.specs.List.{sum};
 ghost use Rattle.jx_io.specs.Causes.{Rose};
 ghost use Rattle.jx_io.specs.Device.{Meaning};
 ghost use Rattle.jx_plan.specs.Planned.{chosen};
 ghost use Rattle.jx_cli.specs.MakeWords.{MayBeMade};
-ghost use Rattle.jx_transcode.specs.MakeRun.{EndsMade, IsLastMade, IsReadyToSay, input_of, make_line, wanted_made, work_made};
+ghost use Rattle.jx_transcode.specs.Filed.{IsAnswered};
+ghost use Rattle.jx_transcode.specs.MakeRun.{EndsMade, aim_made, IsLastMade, IsReadyToSay, input_of, make_line, wanted_made, work_made};
 ghost use Rattle.jx_transcode.specs.Outcome.{EndsAs};
 
+use crate::judge::read_checked;
+use crate::laws::all_is_left;
 use crate::lines::line_of;
-use crate::rewrite::answer;
+use crate::rewrite::{Ending, rewrite};
 use crate::say::{refuse, say_line};
+use crate::task::Task;
 use crate::{Report, Status};
 use jx_base::Style;
 use jx_cli::Make;
 use jx_io::{Files, Gate, Sink, SureFiles};
 use jx_layers::LayerPlanner;
-use jx_options::{Marks, Options, OrderChoice, PartChoice, PrecinctChoice, RsizChoice, Work};
+use jx_options::{
+    FormChoice, Marks, Options, OrderChoice, PartChoice, PrecinctChoice, RsizChoice, Work,
+};
 use jx_rounds::{Crew, TapeEntry};
 use std::alloc::{AllocError, Global};
 use std::sync::Wait;
@@ -86,6 +92,38 @@ fn sum_made(files: &SureFiles) -> u128
     }
 }
 
+/// What becomes of a generated codestream, with all of its resolutions, over files in memory.
+fn answer<R: Threads + Wait + Sync, G: Gate + Sync>(
+    crew: &Crew<'_, R, G>,
+    alloc: Global,
+    files: &mut SureFiles,
+    asked: Make,
+    input: &[u8],
+    options: &Options,
+    planners: &mut [Box<dyn LayerPlanner>],
+) -> Ending
+    requires generated { input.now ≡ input_of asked }
+    requires wanted { options.now ≡ wanted_made }
+    requires work { crew.now.work ≡ work_made }
+    ensures answer { IsAnswered [] work_made (aim_made (λ text facts. chosen (λ b. serves_text b text) (λ b. rule_of b text facts) planners.old))
+        (input_of asked) result.status result.blocks result.bytes result.tape.items
+        (⟦<SureFiles as Files>⟧.meaning files.old) (⟦<SureFiles as Files>⟧.meaning files.new) }
+    ensures read { (result.status ≡ Status.ReadFault → ⊥) × (result.status ≡ Status.Words → ⊥) }
+    ensures unfailed { result.status ≡ Status.WriteFault → ⊥ }
+{
+    all_is_left();
+    let task = Task {
+        options,
+        form: FormChoice::Codestream,
+        reduce: 0,
+        limit: LIMIT,
+    };
+    match read_checked(alloc, input, LIMIT) {
+        Ok(read) => rewrite(crew, alloc, files, "", &read.picture, &task, planners),
+        Err(status) => Ending::refused(alloc, status),
+    }
+}
+
 /// What becomes of a generated codestream.
 fn transcoded<R: Threads + Wait + Sync, G: Gate + Sync>(
     crew: &Crew<'_, R, G>,
@@ -98,12 +136,11 @@ fn transcoded<R: Threads + Wait + Sync, G: Gate + Sync>(
     requires generated { input.now ≡ input_of asked }
     requires wanted { options.now ≡ wanted_made }
     requires work { crew.now.work ≡ work_made }
-    ensures { IsReadyToSay asked (λ text facts. chosen (λ b. serves_text b text) (λ b. rule_of b text facts) planners.old) result.status result.blocks result.before result.after result.total result.tape.items }
+    ensures { IsReadyToSay asked (λ text facts. chosen (λ b. serves_text b text) (λ b. rule_of b text facts) planners.old)
+        result.status result.blocks result.before result.after result.total result.tape.items }
 {
     let mut files = SureFiles::new(alloc);
-    let ending = answer(
-        crew, alloc, &mut files, input, "", options, 0, LIMIT, planners,
-    );
+    let ending = answer(crew, alloc, &mut files, asked, input, options, planners);
     Made {
         status: ending.status,
         blocks: ending.blocks,

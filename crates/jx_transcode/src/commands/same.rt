@@ -8,7 +8,7 @@ ghost use Rattle.jx_transcode.specs.Outcome.{EndsAs, EndsAsReadFault};
 ghost use Rattle.jx_transcode.specs.SameRun.{EndsCompared, IsOfFirst, IsSecondTold, IsToTell, answer_status, blocks_after, same_line, second_status};
 
 use crate::input::{read_input, unread_as};
-use crate::judge::accept;
+use crate::judge::read_checked;
 use crate::lines::line_of;
 use crate::say::say_line;
 use crate::{Report, Status, Unlike};
@@ -74,10 +74,18 @@ fn compare_second<R: Threads + Sync, F: Files>(
         Ok(held) => held,
         Err(refused) => return unread_as(refused),
     };
-    match accept(alloc, &held, limit) {
+    match read_checked(alloc, &held, limit) {
         Ok(second) => {
-            let others: &[Block<'_>] = &second.blocks;
-            answer_status(compare(rt, alloc, threads, stream, blocks, &second.stream, others))
+            let others: &[Block<'_>] = &second.picture.blocks;
+            answer_status(compare(
+                rt,
+                alloc,
+                threads,
+                stream,
+                blocks,
+                &second.picture.stream,
+                others,
+            ))
         }
         Err(status) => second_status(status),
     }
@@ -112,14 +120,14 @@ fn compare_files<R: Threads + Sync, F: Files>(
             };
         }
     };
-    match accept(alloc, &held, limit) {
+    match read_checked(alloc, &held, limit) {
         Ok(accepted) => {
-            let blocks: &[Block<'_>] = &accepted.blocks;
+            let blocks: &[Block<'_>] = &accepted.picture.blocks;
             let status = compare_second(
                 rt,
                 alloc,
                 names.threads(),
-                &accepted.stream,
+                &accepted.picture.stream,
                 blocks,
                 files,
                 names.second(),

@@ -7,11 +7,11 @@ ghost use Rattle.jx_plan.specs.Plan.{MayBePlanned};
 ghost use Rattle.jx_show.specs.Facts.{facts_of};
 ghost use Rattle.jx_show.specs.File.{file_text};
 ghost use Rattle.jx_transcode.specs.Outcome.{EndsAsReadFault};
-ghost use Rattle.jx_transcode.specs.SameRun.{IsUnfit};
+ghost use Rattle.jx_transcode.specs.Sources.{IsUnfit};
 ghost use Rattle.jx_transcode.specs.ShowRun.{EndsShown, HasBoxes, IsShown};
 
 use crate::input::{read_input, unread_as};
-use crate::judge::accept;
+use crate::judge::read_checked;
 use crate::say::{refuse, say_lines};
 use crate::{Report, Status};
 use jx_base::{Block, NoMemory};
@@ -48,11 +48,17 @@ fn lines_of(alloc: Global, input: &[u8], json: bool, limit: u32) -> Result<Strin
     ensures shown { IfOk result (λ text. IsShown limit json input.now (string_bytes text)) }
     ensures refused { IfErr result (λ status. IsUnfit limit input.now status) }
 {
-    let read = match accept(alloc, input, limit) {
+    let read = match read_checked(alloc, input, limit) {
         Ok(read) => read,
         Err(status) => return Err(status),
     };
-    match text_of(alloc, input, &read.stream, &read.blocks, json) {
+    match text_of(
+        alloc,
+        input,
+        &read.picture.stream,
+        &read.picture.blocks,
+        json,
+    ) {
         Ok(text) => Ok(text),
         Err(_) => Err(Status::NoMemory),
     }

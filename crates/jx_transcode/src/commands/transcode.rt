@@ -7,24 +7,30 @@ ghost use Rattle.jx_plan.specs.Planned.{chosen};
 ghost use Rattle.jx_options.specs.Wanted.{MayBeWanted};
 ghost use Rattle.jx_options.specs.Work.{MayBeWork};
 ghost use Rattle.jx_io.specs.Causes.{Rose};
+ghost use Rattle.jx_transcode.specs.Aims.{MayBeTask, aim_by};
 ghost use Rattle.jx_transcode.specs.Filed.{IsAnswered, IsTooLong, unread_as};
 ghost use Rattle.jx_transcode.specs.Jp2Run.{EndsJp2, KeepsPositions};
 ghost use Rattle.jx_transcode.specs.Misfits.{IsChoice, IsMisfitOfFile, TellsMisfit};
 ghost use Rattle.jx_transcode.specs.Outcome.{EndsAs, EndsAsReadFault, line_of};
 ghost use Rattle.jx_transcode.specs.TranscodeRun.{Ends, TellsPositions};
 
-use crate::around::answer_jp2;
+use crate::around::rewrite_around;
 use crate::input::{read_input, unread_as};
+use crate::judge::{Accepted, read_checked};
 use crate::lines::line_of;
-use crate::rewrite::{Ending, answer};
+use crate::rewrite::{Ending, rewrite, unreduced_by, without_resolutions};
 use crate::say::say_line;
+use crate::task::Task;
 use crate::{Report, Status};
+use jx_base::Block;
 use jx_cli::Request;
 use jx_io::{Files, Gate, Refused, Sink};
 use jx_jp2::{holds_positions, is_jp2};
 use jx_layers::LayerPlanner;
-use jx_options::{FormChoice, Options};
+use jx_options::FormChoice;
 use jx_plan::Misfit;
+use jx_plan::laws::gathered_may_be_planned;
+use jx_reduce::laws::whole_stays;
 use jx_rounds::Crew;
 use std::alloc::Global;
 use std::sync::Wait;
@@ -40,41 +46,52 @@ fn unread(alloc: Global, refused: Refused) -> Ending
     Ending::refused(alloc, unread_as(refused))
 }
 
-/// What becomes of a file that may have `limit` bytes, of which these were read: a codestream, or a JP2 file.
-fn answer_file<R: Threads + Wait + Sync, G: Gate + Sync, F: Files>(
+/// What becomes of a file, of which these bytes were read: a codestream, or a JP2 file.
+fn answer<R: Threads + Wait + Sync, G: Gate + Sync, F: Files>(
     crew: &Crew<'_, R, G>,
     alloc: Global,
     files: &mut F,
-    input: &[u8],
     to: &str,
-    form: FormChoice,
-    options: &Options,
-    reduce: u8,
-    limit: u32,
+    input: &[u8],
+    task: &Task<'_>,
     planners: &mut [Box<dyn LayerPlanner>],
 ) -> Ending
     requires creates { F.can_create files.old to.now }
-    requires wanted { MayBeWanted options.now }
-    requires few { reduce ≤ 32 }
+    requires task { MayBeTask task.now }
     requires work { MayBeWork crew.now.work }
-    ensures bare { (IsJp2 input.now → ⊥) → IsAnswered to.now crew.now.work (record { wanted = options.now; reduce = reduce; limit = limit; rule = λ facts. chosen (λ b. serves_text b options.now.layers) (λ b. rule_of b options.now.layers facts) planners.old }) input.now result.status result.blocks result.bytes result.tape.items (F.meaning files.old) (F.meaning files.new) }
-    ensures jp2 { IsJp2 input.now → EndsJp2 to.now crew.now.work form (record { wanted = options.now; reduce = reduce; limit = limit; rule = λ facts. chosen (λ b. serves_text b options.now.layers) (λ b. rule_of b options.now.layers facts) planners.old }) input.now result.status result.blocks result.bytes result.tape.items (F.meaning files.old) (F.meaning files.new) }
-    ensures long { limit < length input.now → IsTooLong limit result.status result.blocks result.bytes result.tape.items (F.meaning files.old) (F.meaning files.new) }
+    ensures bare { (IsJp2 input.now → ⊥) → IsAnswered to.now crew.now.work
+        (aim_by task.now (λ text facts. chosen (λ b. serves_text b text) (λ b. rule_of b text facts) planners.old))
+        input.now result.status result.blocks result.bytes result.tape.items (F.meaning files.old) (F.meaning files.new) }
+    ensures jp2 { IsJp2 input.now → EndsJp2 to.now crew.now.work task.now.form
+        (aim_by task.now (λ text facts. chosen (λ b. serves_text b text) (λ b. rule_of b text facts) planners.old))
+        input.now result.status result.blocks result.bytes result.tape.items (F.meaning files.old) (F.meaning files.new) }
+    ensures long { task.now.limit < length input.now
+        → IsTooLong task.now.limit result.status result.blocks result.bytes result.tape.items (F.meaning files.old) (F.meaning files.new) }
     ensures cause { result.status ≡ Status.WriteFault → Rose (F.write_faults files.old) (F.write_faults files.new) }
     ensures rose { F.write_faults files.old < F.write_faults files.new → result.status ≡ Status.WriteFault }
     ensures read { (result.status ≡ Status.ReadFault → ⊥) × (result.status ≡ Status.Words → ⊥) }
     ensures other { F.read_faults files.new ≡ F.read_faults files.old }
-    ensures short { result.status ≡ Status.Done → length input.now ≤ limit }
-    ensures misfit { IfSome result.misfit (λ misfit. IsMisfitOfFile options.now.precincts reduce limit input.now result.status misfit) }
+    ensures short { result.status ≡ Status.Done → length input.now ≤ task.now.limit }
+    ensures misfit { IfSome result.misfit (λ misfit.
+        IsMisfitOfFile task.now.options.now.precincts task.now.reduce task.now.limit input.now result.status misfit) }
 {
-    if is_jp2(input) {
-        return answer_jp2(
-            crew, alloc, files, input, to, form, options, reduce, limit, planners,
-        );
+    gathered_may_be_planned();
+    whole_stays();
+    let read = match read_checked(alloc, input, task.limit) {
+        Ok(read) => read,
+        Err(status) => return Ending::refused(alloc, status),
+    };
+    let Accepted { source, picture } = read;
+    let all: &[Block<'_>] = &picture.blocks;
+    let count = all.len() as u32;
+    let left = match without_resolutions(alloc, picture, task.reduce) {
+        Ok(left) => left,
+        Err(fault) => return unreduced_by(alloc, fault, count),
+    };
+    match source.boxed {
+        None => rewrite(crew, alloc, files, to, &left, task, planners),
+        Some(boxed) => rewrite_around(crew, alloc, files, to, input, &boxed, &left, task, planners),
     }
-    answer(
-        crew, alloc, files, input, to, options, reduce, limit, planners,
-    )
 }
 
 /// Whether boxes that hold positions in the file were kept. `input` was read, and `status` is what became of it.
@@ -152,24 +169,17 @@ pub fn run<R: Threads + Wait + Sync, F: Files, S: Sink, G: Gate + Sync>(
         gate,
         work: request.work(),
     };
-    let limit = request.limit();
-    match read_input(alloc, files, request.from(), limit) {
+    let task = Task {
+        options: request.options(),
+        form: request.form(),
+        reduce: request.reduce(),
+        limit: request.limit(),
+    };
+    match read_input(alloc, files, request.from(), task.limit) {
         Ok(held) => {
             let input: &[u8] = &held;
-            let form = request.form();
-            let ending = answer_file(
-                &crew,
-                alloc,
-                files,
-                input,
-                request.to(),
-                form,
-                request.options(),
-                request.reduce(),
-                limit,
-                planners,
-            );
-            let positions = keeps_positions(form, input, ending.status);
+            let ending = answer(&crew, alloc, files, request.to(), input, &task, planners);
+            let positions = keeps_positions(task.form, input, ending.status);
             say_ending(alloc, say, ending, positions)
         }
         Err(refused) => say_ending(alloc, say, unread(alloc, refused), false),

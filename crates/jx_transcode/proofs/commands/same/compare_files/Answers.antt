@@ -24,46 +24,46 @@ returns-in-Err-clause-absent_too g c = λ absent. inl (unread_either c.in-Err.re
 pub returns-in-Err-clause-read_rose : goal.returns-in-Err-clause-read_rose
 returns-in-Err-clause-read_rose g c = λ rose. failed_unread c.in-Err.refused _ c.unread_as.ensures (c.in-Err.ensures.cause.rose rose)
 
-pub returns-in-Ok-accept-clause-told : goal.returns-in-Ok-accept-clause-told
-returns-in-Ok-accept-clause-told g c =
-    both_told c.args.names.now c.deref.result.now c.in-Ok-accept.accepted.stream c.in-Ok-accept.accepted.blocks.items c.compare_second-status.result _ _ _ _ (rw (sym c.first.ensures, sym c.limit-limit.ensures, c.deref.ensures.value) c.in-Ok.ensures.bytes) c.in-Ok.ensures.same
-    (rw (sym c.limit-limit.ensures) c.in-Ok-accept.ensures.ok) (ap (λ (bs : List Block). length bs) c.deref-blocks.ensures.value) (rw (c.deref-blocks.ensures.value, c.second.ensures, c.limit-limit.ensures) at c.compare_second-status.ensures.told)
+pub returns-in-Ok-read_checked-clause-told : goal.returns-in-Ok-read_checked-clause-told
+returns-in-Ok-read_checked-clause-told g c =
+    both_told c.args.names.now c.deref.result.now c.in-Ok-read_checked.accepted.picture.stream c.in-Ok-read_checked.accepted.picture.blocks.items c.compare_second-status.result _ _ _ _ (rw (sym c.first.ensures, sym c.limit-limit.ensures, c.deref.ensures.value) c.in-Ok.ensures.bytes) c.in-Ok.ensures.same
+    (rw (sym c.limit-limit.ensures) c.in-Ok-read_checked.ensures.ok) (ap (λ (bs : List Block). length bs) c.deref-blocks.ensures.value) (rw (c.deref-blocks.ensures.value, c.second.ensures, c.limit-limit.ensures) at c.compare_second-status.ensures.told)
 
-pub returns-in-Ok-accept-clause-read : goal.returns-in-Ok-accept-clause-read
-returns-in-Ok-accept-clause-read g c = λ failed. rw (unrisen _ _ _ c.in-Ok.ensures.cause) at (c.compare_second-status.ensures.read failed)
+pub returns-in-Ok-read_checked-clause-read : goal.returns-in-Ok-read_checked-clause-read
+returns-in-Ok-read_checked-clause-read g c = λ failed. rw (unrisen _ _ _ c.in-Ok.ensures.cause) at (c.compare_second-status.ensures.read failed)
 
-pub returns-in-Ok-accept-clause-write : goal.returns-in-Ok-accept-clause-write
-returns-in-Ok-accept-clause-write g c = second_unwritten _ _ _ _ _ _ _ c.compare_second-status.ensures.told
+pub returns-in-Ok-read_checked-clause-write : goal.returns-in-Ok-read_checked-clause-write
+returns-in-Ok-read_checked-clause-write g c = second_unwritten _ _ _ _ _ _ _ c.compare_second-status.ensures.told
 
-pub returns-in-Ok-accept-clause-absent : goal.returns-in-Ok-accept-clause-absent
-returns-in-Ok-accept-clause-absent g c = λ absent. absurd (c.in-Ok.ensures.there (rw c.first.ensures absent))
+pub returns-in-Ok-read_checked-clause-absent : goal.returns-in-Ok-read_checked-clause-absent
+returns-in-Ok-read_checked-clause-absent g c = λ absent. absurd (c.in-Ok.ensures.there (rw c.first.ensures absent))
 
-pub returns-in-Ok-accept-clause-absent_too : goal.returns-in-Ok-accept-clause-absent_too
-returns-in-Ok-accept-clause-absent_too g c = λ absent. inl (c.compare_second-status.ensures.absent (rw c.second.ensures (c.in-Ok.ensures.same.holds _ ∙ absent)))
+pub returns-in-Ok-read_checked-clause-absent_too : goal.returns-in-Ok-read_checked-clause-absent_too
+returns-in-Ok-read_checked-clause-absent_too g c = λ absent. inl (c.compare_second-status.ensures.absent (rw c.second.ensures (c.in-Ok.ensures.same.holds _ ∙ absent)))
 
-pub returns-in-Ok-accept-clause-read_rose : goal.returns-in-Ok-accept-clause-read_rose
-returns-in-Ok-accept-clause-read_rose g c = λ rose. c.compare_second-status.ensures.read_rose (omega (arith, unrisen _ _ _ c.in-Ok.ensures.cause, rose))
+pub returns-in-Ok-read_checked-clause-read_rose : goal.returns-in-Ok-read_checked-clause-read_rose
+returns-in-Ok-read_checked-clause-read_rose g c = λ rose. c.compare_second-status.ensures.read_rose (omega (arith, unrisen _ _ _ c.in-Ok.ensures.cause, rose))
 
-pub returns-in-Ok-accept-clause-other : goal.returns-in-Ok-accept-clause-other
-returns-in-Ok-accept-clause-other g c = c.compare_second-status.ensures.other ∙ c.in-Ok.ensures.other
+pub returns-in-Ok-read_checked-clause-other : goal.returns-in-Ok-read_checked-clause-other
+returns-in-Ok-read_checked-clause-other g c = c.compare_second-status.ensures.other ∙ c.in-Ok.ensures.other
 
 pub returns-clause-told : goal.returns-clause-told
-returns-clause-told g c = first_unfit c.args.names.now c.deref.result.now c.in-Err-accept.status _ _ (rw (sym c.first.ensures, sym c.limit-limit.ensures, c.deref.ensures.value) c.in-Ok.ensures.bytes) c.in-Ok.ensures.same (rw (sym c.limit-limit.ensures) c.in-Err-accept.ensures.err)
+returns-clause-told g c = first_unfit c.args.names.now c.deref.result.now c.in-Err-read_checked.status _ _ (rw (sym c.first.ensures, sym c.limit-limit.ensures, c.deref.ensures.value) c.in-Ok.ensures.bytes) c.in-Ok.ensures.same (rw (sym c.limit-limit.ensures) c.in-Err-read_checked.ensures.err)
 
 pub returns-clause-read : goal.returns-clause-read
-returns-clause-read g c = λ failed. absurd ((unfit_unread c.limit-limit.result c.deref.result.now c.in-Err-accept.status c.in-Err-accept.ensures.err).0 failed)
+returns-clause-read g c = λ failed. absurd ((unfit_unread c.limit-limit.result c.deref.result.now c.in-Err-read_checked.status c.in-Err-read_checked.ensures.err).0 failed)
 
 pub returns-clause-write : goal.returns-clause-write
-returns-clause-write g c = (unfit_unread c.limit-limit.result c.deref.result.now c.in-Err-accept.status c.in-Err-accept.ensures.err).1
+returns-clause-write g c = (unfit_unread c.limit-limit.result c.deref.result.now c.in-Err-read_checked.status c.in-Err-read_checked.ensures.err).1
 
 pub returns-clause-absent : goal.returns-clause-absent
 returns-clause-absent g c = λ absent. absurd (c.in-Ok.ensures.there (rw c.first.ensures absent))
 
 pub returns-clause-absent_too : goal.returns-clause-absent_too
-returns-clause-absent_too g c = λ absent. unfit_of_first c.limit-limit.result c.deref.result.now c.in-Err-accept.status c.in-Err-accept.ensures.err
+returns-clause-absent_too g c = λ absent. unfit_of_first c.limit-limit.result c.deref.result.now c.in-Err-read_checked.status c.in-Err-read_checked.ensures.err
 
 pub returns-clause-read_rose : goal.returns-clause-read_rose
 returns-clause-read_rose g c = λ rose. absurd (omega (arith, unrisen _ _ _ c.in-Ok.ensures.cause, rose))
 
 pub overflow_cast-result : goal.overflow_cast-result
-overflow_cast-result g c = omega (arith, planned_few c.in-Ok-accept.accepted.stream c.in-Ok-accept.accepted.blocks.items c.in-Ok-accept.ensures.may, ap (λ (bs : List Block). length bs) c.deref-blocks.ensures.value)
+overflow_cast-result g c = omega (arith, planned_few c.in-Ok-read_checked.accepted.picture.stream c.in-Ok-read_checked.accepted.picture.blocks.items c.in-Ok-read_checked.ensures.may, ap (λ (bs : List Block). length bs) c.deref-blocks.ensures.value)

@@ -1,5 +1,5 @@
 use Rattle.std.proofs.Common.{◌≤◌, length, rules}
-use Rattle.jx_transcode.proofs.around.content_of.Goals as goal
+use Rattle.jx_transcode.proofs.source.content_of.Goals as goal
 
 pub slice_bounds-result-count : goal.slice_bounds-result-count
 slice_bounds-result-count c = c.codestream_lies_within.ensures.content c.args.input.now c.args.boxed.now c.requires
