@@ -5,8 +5,8 @@ usage: bench/shapes.py PROGRAM [-n COUNT] [-t SECONDS] [-s SEED] [-b BYTES] [-k 
 
 Draws codestreams of at most BYTES (100,000): so many tiles, components, resolutions, precincts, layers, code-blocks, tile-parts, progression
 changes and headers of tiles' own as fit, all packets empty, and options to rewrite them with; one in ten has too little tile data. One in eight
-has headers of many layers over one precinct of many code-blocks instead, of which few are included, all in layer 0. It stops after COUNT files
-or SECONDS (600), or where it is told to end. The same SEED (1) gives the same files. Prints how often each status came, and the ten that took
+has headers of many layers over one precinct of many code-blocks instead, of which few are included, all in layer 0. One in eight is a pair for
+`same`: the same zeros in code-blocks of two sizes that cross. It stops after COUNT files or SECONDS (600), or when it is told to end. The same SEED (1) gives the same files. Prints how often each status came, and the ten that took
 most processor seconds and the ten that took most memory, with what was drawn; the inputs of the dearest are kept in the folder KEPT, where one
 is named. A run may take a minute. Python's standard library is needed.
 """
@@ -140,6 +140,9 @@ class Shape:
         whole = b"".join(out) + b"\xFF\xD9"
         return whole if len(whole) <= most else b""
 
+    def words(self, source, target):
+        return ["transcode", source, target, *self.options]
+
     def told(self):
         names = "tiles side at comps factor levels precinct layers block order parts own changes cut".split()
         return " ".join(f"{name} {getattr(self, name)}" for name in names) + " " + " ".join(self.options)
@@ -193,6 +196,9 @@ class Headers:
         head = b"\xFF\x4F" + segment(0x51, siz) + segment(0x52, cod) + segment(0x5C, b"\x40\x40")
         return head + segment(0x90, sot) + b"\xFF\x93" + data + b"\xFF\xD9"
 
+    def words(self, source, target):
+        return ["transcode", source, target, *self.options]
+
     def told(self):
         return f"blocks {self.wide} by {self.high} layers {self.layers} included {len(self.included)} " + " ".join(self.options)
 
@@ -211,11 +217,66 @@ def packed(bits):
     return bytes(out)
 
 
-def run(program, source, target, options):
+class Crossed:
+    """Two codestreams of one component without anything in it, in code-blocks of two sizes, for `same`."""
+
+    def __init__(self, pick, most):
+        sizes = [(x, y) for x in range(2, 11) for y in range(2, 11) if x + y <= 12]
+        self.size = (1 << pick.randrange(2, 14), 1 << pick.randrange(2, 14))
+        self.blocks = (pick.choice(sizes), pick.choice(sizes))
+        self.passes = pick.choice((0, 0, 1, 10, 109))
+        self.threads = pick.choice((1, 2, 4, 64))
+        self.bytes, self.other = (self.codestream(block, most) for block in self.blocks)
+        if not self.other:
+            self.bytes = b""
+
+    def packet(self, across, down):
+        """One packet, in which each code-block is included with all passes, without a byte and a zero plane (T.800, B.10)."""
+        if self.passes == 0:
+            return b"\0"
+        more = self.passes
+        count = "0" if more == 1 else "10" if more == 2 else "11" + format(more - 3, "02b") if more < 6 else ""
+        count = count or ("1111" + format(more - 6, "05b") if more < 37 else "1" * 9 + format(more - 37, "07b"))
+        count += "0" + "0" * (2 + more.bit_length())
+        height = (max(across, down) - 1).bit_length()
+        bits = ["1"]
+        for y in range(down):
+            for x in range(across):
+                # the nodes of both tag trees whose first code-block this is
+                own = min(height, *((it & -it).bit_length() - 1 for it in (x, y) if it), 99)
+                bits.append("11" * (own + 1) + count)
+        bits, out, at = "".join(bits), bytearray(), 0
+        while at < len(bits) or out[-1] == 0xFF:
+            room = 7 if out and out[-1] == 0xFF else 8
+            out.append(int(bits[at : at + room].ljust(room, "0") or "0", 2))
+            at += room
+        return bytes(out)
+
+    def codestream(self, block, most):
+        across, down = (up(it, 1 << by) for it, by in zip(self.size, block))
+        if across * down > (8 * most // (3 + self.passes.bit_length()) if self.passes else 1 << 22):
+            return b""
+        data = self.packet(across, down)
+        siz = struct.pack(">H8IHBBB", 0, *self.size, 0, 0, *self.size, 0, 0, 1, 7, 1, 1)
+        cod = struct.pack(">BBHBBBBBB", 0, 0, 1, 0, 0, block[0] - 2, block[1] - 2, 0, 1)
+        head = b"\xFF\x4F" + segment(0x51, siz) + segment(0x52, cod) + segment(0x5C, bytes([0xE0, 31 << 3]))
+        whole = head + segment(0x90, struct.pack(">HIBB", 0, 14 + len(data), 0, 1)) + b"\xFF\x93" + data + b"\xFF\xD9"
+        return whole if len(whole) <= most else b""
+
+    def words(self, source, target):
+        with open(target, "wb") as file:
+            file.write(self.other)
+        return ["same", source, target, "--threads", str(self.threads)]
+
+    def told(self):
+        return f"same: {self.size} blocks {self.blocks} passes {self.passes} threads {self.threads}"
+
+
+def run(program, words):
     """Processor seconds, KiB and status of one run."""
     null = os.open(os.devnull, os.O_WRONLY)
     actions = [(os.POSIX_SPAWN_DUP2, null, 1), (os.POSIX_SPAWN_DUP2, null, 2)]
-    pid = os.posix_spawnp("timeout", ["timeout", str(MOST_SECONDS), program, "transcode", source, target, *options], os.environ, file_actions=actions)
+    pid = os.posix_spawnp("timeout", ["timeout", str(MOST_SECONDS), program, *words], os.environ, file_actions=actions)
     _, status, used = os.wait4(pid, 0)
     os.close(null)
     return used.ru_utime + used.ru_stime, used.ru_maxrss, os.waitstatus_to_exitcode(status)
@@ -233,12 +294,12 @@ def main():
         source, target = os.path.join(folder, "in.j2k"), os.path.join(folder, "out.j2k")
         signal.signal(signal.SIGTERM, lambda *_: asked.__setattr__("n", 0))
         while sum(seen.values()) < asked.n and time.monotonic() < end:
-            shape = (Headers if pick.randrange(8) == 0 else Shape)(pick, asked.b)
+            shape = pick.choice((Headers, Crossed, *(Shape,) * 6))(pick, asked.b)
             if not shape.bytes:
                 continue
             with open(source, "wb") as file:
                 file.write(shape.bytes)
-            seconds, most, status = run(asked.program, source, target, shape.options)
+            seconds, most, status = run(asked.program, shape.words(source, target))
             seen[status] += 1
             found.append((seconds, most, len(shape.bytes), status, shape.told(), shape.bytes))
             found = sorted({it for by in (0, 1) for it in sorted(found, key=lambda it: -it[by])[:10]}, key=lambda it: -it[0])
