@@ -50,7 +50,8 @@ class Shape:
         self.order = pick.randrange(5)
         self.parts = pick.choice((1, 1, 1, 3, 60, 255))
         self.own = pick.choice(("", "", "", "rgn", "coc", "cod", "qcc"))
-        self.changes = pick.choice((0, 0, 0, 1, 8, 32, 250))
+        self.changes = pick.choice((0, 0, 0, 1, 8, 32, 250, 7000))
+        self.ends = pick.choice(("alike", "alike", "comps", "levels"))
         self.cut = pick.randrange(10) == 0
         self.options = self.drawn_options(pick)
         self.bytes = self.codestream(most)
@@ -114,10 +115,16 @@ class Shape:
         if self.changes:
             wide = self.comps > 256
             end = min(self.comps, 16384 if wide else 255)
-            entry = struct.pack(">BHHBHB" if wide else ">BBHBBB", 0, 0, self.layers, 33, end, self.order)
-            changes = segment(0x5F, entry * self.changes)
+            changes = segment(0x5F, b"".join(self.entry(it, end, wide) for it in range(self.changes)))
         quant = bytes([0x40]) + bytes([0x40]) * (3 * self.levels + 1)
         return b"\xFF\x4F" + segment(0x51, siz) + self.cod() + segment(0x5C, quant) + changes
+
+    def entry(self, number, end, wide):
+        """A progression change: the first covers all, later ones the same or less."""
+        top = 33 - number % 33 if self.ends == "levels" else 33
+        if self.ends == "comps":
+            end -= number % end
+        return struct.pack(">BHHBHB" if wide else ">BBHBBB", 0, 0, self.layers, top, end, self.order)
 
     def codestream(self, most):
         """The bytes, or nothing where they would be too many or can't be had."""
@@ -144,7 +151,7 @@ class Shape:
         return ["transcode", source, target, *self.options]
 
     def told(self):
-        names = "tiles side at comps factor levels precinct layers block order parts own changes cut".split()
+        names = "tiles side at comps factor levels precinct layers block order parts own changes ends cut".split()
         return " ".join(f"{name} {getattr(self, name)}" for name in names) + " " + " ".join(self.options)
 
 

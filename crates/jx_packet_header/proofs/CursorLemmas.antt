@@ -4,8 +4,8 @@ use Rattle.std.proofs.lemmas.Bool.Decides.{nat_tests}
 use Rattle.std.proofs.lemmas.List.{append-nil, take-append-drop, get_or_default}
 use Rattle.jx_packet_header.specs.declared.HeaderPart.{HeaderPart}
 use Rattle.jx_packet_header.specs.declared.LeafPart.{LeafPart}
-use Rattle.jx_packet_header.specs.Written.{Leafed, parts_in}
-use Rattle.jx_packet_header.specs.Writable.{IsCursor, IsRising, AreRising, leaf_at}
+use Rattle.jx_packet_header.specs.Written.{Leafed, first_layer, parts_in}
+use Rattle.jx_packet_header.specs.Writable.{IsCursor, IsRising, AreRising, AreFrom, leaf_at}
 
 -- ---- cursors
 pub cursor_more : (layer c : ℕ) (parts : List LeafPart) → IsCursor layer c parts → IsCursor (layer + 1) c parts
@@ -102,6 +102,27 @@ pub rising_at : (i : ℕ) (leaves : List Leafed) → AreRising leaves → IsRisi
 rising_at i [] r = tt
 rising_at zero (l ∷ ls) r = r.0
 rising_at (suc i) (l ∷ ls) r = rising_at i ls r.1
+
+-- ---- parts from a layer on
+pub from_less : (layer : ℕ) (parts : List LeafPart) → AreFrom (layer + 1) parts → AreFrom layer parts
+from_less layer [] f = tt
+from_less layer (p ∷ ps) f = (let le : layer + 1 ≤ p.layer = f.0 in omega arith, from_less layer ps f.1)
+
+pub from_none : (layer : ℕ) (parts : List LeafPart) → AreFrom (layer + 1) parts → parts_in layer parts ≡ []
+from_none layer [] f = refl
+from_none layer (p ∷ ps) f =
+    let le : layer + 1 ≤ p.layer = f.0 in
+    let no : (p.layer == layer) ≡ false = grind (arith, nat_tests) in
+    ap (λ (b : Bool). cond b (p.told ∷ parts_in layer ps) (parts_in layer ps)) no ∙ from_none layer ps f.1
+
+rising_are : (layer last : ℕ) (parts : List LeafPart) → IsRising last parts → layer ≤ last → AreFrom layer parts
+rising_are layer last [] r le = tt
+rising_are layer last (p ∷ ps) r le = let ge : last ≤ p.layer = r.0 in (omega arith, rising_are layer p.layer ps r.1 (omega arith))
+
+-- where layers don't fall, those of the parts begin with the first part's
+pub rising_first : (layers layer : ℕ) (parts : List LeafPart) → IsRising 0 parts → layer ≤ first_layer layers parts → AreFrom layer parts
+rising_first layers layer [] r le = tt
+rising_first layers layer (p ∷ ps) r le = (le, rising_are layer p.layer ps r.1 le)
 
 -- ---- what stands at a place
 pub cursor_here : (layer leaf r : ℕ) (inside now : List ℕ) (parts : List LeafPart) → inside ≡ now → leaf < length now → r ≡ get_or inside leaf r → IsCursor layer (get_or now leaf 0) parts → IsCursor layer r parts

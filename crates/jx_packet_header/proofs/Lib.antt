@@ -18,9 +18,11 @@ mod StuffedLemmas
 mod StopBandLemmas
 pub mod FreshLemmas
 pub mod PutLemmas
+mod FirstLemmas
 pub mod WriteLemmas
 mod EntryLemmas
 pub mod PlanLemmas
 pub mod LayerLemmas
 pub mod AgreeLemmas
 mod CursorLemmas
+mod QuietLemmas

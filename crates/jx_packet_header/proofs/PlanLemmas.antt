@@ -1,22 +1,24 @@
 -- The bands of a precinct that is written.
 use Rattle.std.proofs.Common.{◌≡◌, ℕ, zero, suc, ◌+◌, ◌-◌, ◌*◌, ◌^◌, ◌<◌, ◌≤◌, ◌==◌, nat_le, min, Bool, true, false, List, [], ◌∷◌, ◌++◌, length, take, drop, map, replicate, get_or, set, refl, sym, ap, ◌∙◌, subst, cond, arith, append_assoc, length-set, length-append, length-drop, length-take, inl, inr, drop-drop}
-use Rattle.std.proofs.lemmas.List.{append-nil, take_all, drop_all, take-map, drop-map, length-replicate, get_or_default, get_or-replicate, get_or_past, drop-append-le, take-append-le}
+use Rattle.std.proofs.lemmas.List.{append-nil, take_all, drop_all, take-map, drop-map, length-map, length-replicate, get_or_default, get_or-replicate, get_or_past, drop-append-le, take-append-le}
 use Rattle.std.proofs.Math.Seq.{drop-append_seam, get_or-append_seam}
 use Rattle.std.proofs.Math.ListN.{get_or-append}
 use Rattle.std.proofs.lemmas.Bool.Decides.{nat_tests}
 use Rattle.std.proofs.lemmas.Bool.{cases_lt}
 use Rattle.jx_tagtree.specs.Header.{bytes_of}
 use Rattle.jx_tagtree.specs.Leaves.{least_leaf}
+use Rattle.jx_tagtree.proofs.LeafLemmas.{least_are_values}
+use Rattle.jx_tagtree.proofs.QuestionLemmas.{fresh_tree, fresh_values}
 use Rattle.jx_packet_header.specs.declared.LeafPart.{LeafPart}
 use Rattle.jx_packet_header.specs.declared.BandCells.{BandCells}
 use Rattle.jx_packet_header.specs.declared.known.Known.{Known}
 use Rattle.jx_packet_header.specs.declared.Leaf.{Leaf}
 use Rattle.jx_packet_header.specs.Leafs.{leaf_of}
 use Rattle.jx_packet_header.specs.Packet.{Cells, BandTold, band_bits, bands_bits, bands_after, blocks_bits, blocks_after, most_passes, unknown_block}
-use Rattle.jx_packet_header.specs.Written.{Leafed, Writes, entries_written, cells_of, values_of, first_leaves, zero_leaf, zero_leaves, parts_in, passes_of, some_in, bands_written, state_at}
+use Rattle.jx_packet_header.specs.Written.{Leafed, Writes, entries_written, cells_of, values_of, first_layer, first_leaves, zero_leaf, zero_leaves, parts_in, passes_of, some_in, bands_written, state_at}
 use Rattle.jx_packet_header.specs.Precinct.{cells_in, CellsInRange, IsBandCells, AreBandCells, fresh_cells, fresh_bands}
 use Rattle.jx_packet_header.specs.LeavesFit.{LeavesFit, LeavesInRange, FitsLeaf, FitBand, FitBands, fresh_writes, header_at, IsCutOut, AreHeaders}
-use Rattle.jx_packet_header.proofs.CursorLemmas.{cursor_more}
+use Rattle.jx_packet_header.proofs.CursorLemmas.{cursor_more, from_less}
 use Rattle.jx_packet_header.proofs.FreshLemmas.{some_cells, unknown_at}
 use Rattle.jx_packet_header.proofs.WriteLemmas.{due_split}
 use Rattle.jx_packet_header.specs.Writable.{IsDue, IsWrites, AreDue, tolds_of, head_of, heads_of, AreFirst, AllFew, AllBytes, HeaderDone, AreMade, leaf_at, all_passes, passes_from}
@@ -234,9 +236,14 @@ fresh_due layers b leaves is lt few all f bytes = record {
     cursors = length-replicate (b.wide * b.high) 0 ∙ sym (length-replicate (b.wide * b.high) unknown_block);
     zeros_are = refl;
     fit = λ i. zeros_fit b.planes i leaves is.planes bytes;
+    layers = layers;
+    first_are = refl;
+    first_is = fresh_tree b.wide b.high;
+    first_values = fresh_values b.wide b.high (least_leaf b.wide b.high (first_leaves layers leaves))
+        (least_are_values b.wide b.high (first_leaves layers leaves) (record { some = some_cells b is lt; few = few }) (length-map leaves (λ (l : Leafed). first_layer layers l.parts) ∙ all));
   };
   due = λ i. subst (λ (k : Known). IsDue 0 k (get_or (replicate (b.wide * b.high) 0) i 0) (leaf_at leaves i)) (sym (unknown_at (b.wide * b.high) i))
-      (subst (λ (c : ℕ). IsDue 0 unknown_block c (leaf_at leaves i)) (sym (zero_at (b.wide * b.high) i)) (record { cursor_is = tt; few = (let s : all_passes (leaf_at leaves i).parts < 2 ^ 16 = few_leaf i leaves f in let e : passes_from 0 (leaf_at leaves i).parts ≡ all_passes (leaf_at leaves i).parts = from_first (leaf_at leaves i).parts in omega arith); lblock = omega arith }));
+      (subst (λ (c : ℕ). IsDue 0 unknown_block c (leaf_at leaves i)) (sym (zero_at (b.wide * b.high) i)) (record { cursor_is = tt; few = (let s : all_passes (leaf_at leaves i).parts < 2 ^ 16 = few_leaf i leaves f in let e : passes_from 0 (leaf_at leaves i).parts ≡ all_passes (leaf_at leaves i).parts = from_first (leaf_at leaves i).parts in omega arith); lblock = omega arith; fresh = λ from. refl }));
 }
 
 pub record Making (layers at base : ℕ) (bands : List BandCells) (leaves : List Leafed) (made : List Writes) : Type 0 where
@@ -301,7 +308,7 @@ due_less : (layer : ℕ) (known : Known) (c : ℕ) (leaf : Leafed) → IsDue lay
 due_less layer known c leaf d =
     let s : passes_from layer leaf.parts ≡ passes_of (parts_in layer leaf.parts) + passes_from (layer + 1) leaf.parts = due_split layer leaf.parts in
     let f : known.passes + passes_from layer leaf.parts < 2 ^ 16 = d.few in
-    record { cursor_is = cursor_more layer c leaf.parts d.cursor_is; few = omega arith; lblock = d.lblock }
+    record { cursor_is = cursor_more layer c leaf.parts d.cursor_is; few = omega arith; lblock = d.lblock; fresh = λ from. d.fresh (from_less layer leaf.parts from) }
 
 pub due_empty : (layer : ℕ) (ws : List Writes) (leaves : List Leafed) → AreDue layer ws leaves → AreDue (layer + 1) ws leaves
 due_empty layer [] leaves d = tt

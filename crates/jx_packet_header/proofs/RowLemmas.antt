@@ -1,5 +1,5 @@
 -- What is read of the rows of a band: blocks under a node that is past the layer are passed over.
-use Rattle.std.proofs.Common.{◌≡◌, ◌≢◌, ℕ, zero, suc, ◌+◌, ◌-◌, ◌*◌, ◌/◌, ◌%◌, ◌^◌, ◌<◌, ◌≤◌, min, Bool, List, ◌++◌, length, refl, sym, ap, ◌∙◌, subst, arith, Ok, Err, Result, inl, inr}
+use Rattle.std.proofs.Common.{◌≡◌, ◌≢◌, ℕ, zero, suc, ◌+◌, ◌-◌, ◌*◌, ◌/◌, ◌%◌, ◌^◌, ◌<◌, ◌≤◌, min, Bool, List, ◌++◌, length, refl, sym, ap, ◌∙◌, subst, arith, Ok, Err, inl, inr}
 use Rattle.std.proofs.lemmas.Bool.{cases_lt}
 use Rattle.std.proofs.lemmas.Nat.{div_below, mod_below, mul-le, mul-add-lt, div-mul-add, mod-mul-add, div-add-mod', le-div, pow_pos}
 use Rattle.std.proofs.Math.Nat.{div-mul-le_self}
@@ -11,7 +11,7 @@ use Rattle.jx_packet_header.specs.declared.HeadFault.TheVariants.{Bits, Planes, 
 use Rattle.jx_packet_header.specs.Said.{Refuses, BandSaid}
 use Rattle.jx_packet_header.specs.Packet.{Cells}
 use Rattle.jx_packet_header.specs.Kept.{IsLeafOf, IsBand, IsSilent, AreSilent, KeepsSize}
-use Rattle.jx_packet_header.specs.Scan.{Told, AllTold, and_parts, scan_block, scan_blocks}
+use Rattle.jx_packet_header.specs.Scan.{Told, and_parts, scan_block, scan_blocks}
 use Rattle.jx_packet_header.proofs.AskLemmas.{past_unsettled}
 use Rattle.jx_packet_header.proofs.BandLemmas.{all_is, block_of, blocks_refuse, block_band, block_wide, block_silent, blocks_step, blocks_said, silent_blocks, first_blocks, first_fault, whole_fault, parts_parts}
 
@@ -29,21 +29,21 @@ before_end at place =
     let lt : at / 2 ^ place * 2 ^ place + at % 2 ^ place < end at place = next_times (at / 2 ^ place) (2 ^ place) (at % 2 ^ place) (mod_below at (2 ^ place) (pow_pos place)) in
     omega arith
 
-in_run : (at place x : ℕ) → at ≤ x → x < end at place → x / 2 ^ place ≡ at / 2 ^ place
+pub in_run : (at place x : ℕ) → at ≤ x → x < end at place → x / 2 ^ place ≡ at / 2 ^ place
 in_run at place x ge lt =
     let low : at / 2 ^ place * 2 ^ place ≤ at = div-mul-le_self at (2 ^ place) in
     let le : at / 2 ^ place ≤ x / 2 ^ place = le-div (at / 2 ^ place) x (2 ^ place) (pow_pos place) (omega arith) in
     let less : x / 2 ^ place < at / 2 ^ place + 1 = div_below x (2 ^ place) (at / 2 ^ place + 1) (pow_pos place) lt in
     omega arith
 
-under : (wide place down across y x : ℕ) → across < wide → x < wide → y / 2 ^ place ≡ down / 2 ^ place → x / 2 ^ place ≡ across / 2 ^ place →
+pub under : (wide place down across y x : ℕ) → across < wide → x < wide → y / 2 ^ place ≡ down / 2 ^ place → x / 2 ^ place ≡ across / 2 ^ place →
     AreUnder wide place (down * wide + across) (y * wide + x)
 under wide place down across y x across_lt x_lt rows columns = record {
   row = ap (λ (n : ℕ). n / 2 ^ place) (div-mul-add y wide x x_lt) ∙ rows ∙ sym (ap (λ (n : ℕ). n / 2 ^ place) (div-mul-add down wide across across_lt));
   column = ap (λ (n : ℕ). n / 2 ^ place) (mod-mul-add y wide x x_lt) ∙ columns ∙ sym (ap (λ (n : ℕ). n / 2 ^ place) (mod-mul-add down wide across across_lt));
 }
 
-later_row : (wide down across y x : ℕ) → across < wide → down < y → y * wide + x ≢ down * wide + across
+pub later_row : (wide down across y x : ℕ) → across < wide → down < y → y * wide + x ≢ down * wide + across
 later_row wide down across y x lt later = λ (e : y * wide + x ≡ down * wide + across). (
     let le : (down + 1) * wide ≤ y * wide = mul-le (down + 1) wide y wide (omega arith) (omega arith) in
     let one : (down + 1) * wide ≡ down * wide + wide = omega arith in
@@ -206,7 +206,7 @@ rows_begin style layer base begun start from b =
       size = record { wide = refl; high = refl; long = refl };
     }
 
-spread : (a d w : ℕ) → (a + 1 + d) * w ≡ a * w + w + d * w
+pub spread : (a d w : ℕ) → (a + 1 + d) * w ≡ a * w + w + d * w
 spread a d w = omega arith
 
 module _ (style layer base : ℕ) (begun : List HeaderPart) (start : Cells) (from : List Bool) (down : ℕ) (cells : Cells) (parts : List HeaderPart) (bits : List Bool)

@@ -1,5 +1,5 @@
 -- Blocks that are settled once a packet has included them, and blocks of which a header has no bits.
-use Rattle.std.proofs.Common.{◌≡◌, ◌≢◌, ℕ, ◌+◌, ◌<◌, nat_lt, Bool, true, false, length, refl, sym, ap, ◌∙◌, cond, set, Some, None, inl, inr}
+use Rattle.std.proofs.Common.{◌≡◌, ◌≢◌, ℕ, ◌+◌, Bool, true, false, refl, sym, ap, ◌∙◌, cond, Some, None, inl, inr}
 use Rattle.std.specs.Prelude.{Option}
 use Rattle.std.proofs.lemmas.Bool.{cases_eq}
 use Rattle.std.proofs.lemmas.List.{get_or-set_other}
@@ -22,7 +22,7 @@ first_unsettled known values tree leaf layer q un = by (node_at tree.nodes q).se
     by false e = refl
     by true e = sym (first_settled known values tree leaf layer q e) ∙ un
 
-first_past : (known : Option ℕ) (values : ℕ → ℕ) (tree : Tree) (leaf other layer : ℕ) → IsPast tree other (layer + 1) → IsPast (first_after known values tree leaf layer) other (layer + 1)
+pub first_past : (known : Option ℕ) (values : ℕ → ℕ) (tree : Tree) (leaf other layer : ℕ) → IsPast tree other (layer + 1) → IsPast (first_after known values tree leaf layer) other (layer + 1)
 first_past None values tree leaf other layer p = past_stays tree values other leaf (layer + 1) p
 first_past (Some z) values tree leaf other layer p = p
 

@@ -1,10 +1,11 @@
 -- Headers that are written.
-use Rattle.std.proofs.Common.{◌≡◌, ◌≢◌, ℕ, zero, suc, ◌+◌, ◌*◌, ◌^◌, ◌<◌, ◌≤◌, ◌==◌, nat_le, Bool, true, false, List, [], ◌∷◌, ◌++◌, length, drop, map, get_or, set, refl, sym, ap, ◌∙◌, subst, cond, arith, append_assoc, get_or-set_same, get_or-set_other, length-set, inl, inr, ◌⊎◌}
+use Rattle.std.proofs.Common.{◌≡◌, ◌≢◌, ℕ, zero, suc, ◌+◌, ◌*◌, ◌^◌, ◌<◌, ◌≤◌, ◌==◌, nat_lt, nat_le, Bool, true, false, List, [], ◌∷◌, ◌++◌, length, drop, map, get_or, set, refl, sym, ap, ◌∙◌, subst, cond, arith, append_assoc, get_or-set_same, get_or-set_other, length-set, inl, inr, ◌⊎◌}
 use Rattle.std.proofs.lemmas.Bool.Decides.{nat_tests}
 use Rattle.std.proofs.lemmas.Bool.{cases_eq, cases_lt}
 use Rattle.std.proofs.lemmas.List.{get_or-map, length-map, get_or_past, append-nil}
 use Rattle.jx_tagtree.specs.Shape.{IsShape}
 use Rattle.jx_tagtree.specs.Leaves.{least_leaf}
+use Rattle.jx_tagtree.specs.TagTree.{IsTree, ValuesOf}
 use Rattle.jx_tagtree.proofs.LeafLemmas.{least_of_leaf}
 use Rattle.jx_packet_header.specs.declared.HeaderPart.{HeaderPart}
 use Rattle.jx_packet_header.specs.declared.LeafPart.{LeafPart}
@@ -16,6 +17,8 @@ use Rattle.jx_packet_header.specs.Written.{Leafed, Writes, zero_leaf, zero_leave
 use Rattle.jx_packet_header.specs.Leafs.{leaf_of}
 use Rattle.jx_packet_header.specs.Writable.{no_leaf, leaf_at, passes_from, IsCursor, IsDue, AreWrites, IsWrites, IsPartly, SameSize}
 use Rattle.jx_packet_header.proofs.BandLemmas.{entry_size}
+use Rattle.jx_packet_header.proofs.CursorLemmas.{from_less, from_none}
+use Rattle.jx_packet_header.proofs.FirstLemmas.{first_still}
 use Rattle.jx_packet_header.proofs.PutLemmas.{same_least, size_le}
 
 -- ---- passes that are due
@@ -134,8 +137,9 @@ same_values w old first zeros s =
     ap (λ (f : ℕ → ℕ). let v : Values = record { first = f; zeros = least_of w.zeros } in v) (same_least w.first old.first first s.wide s.high)
     ∙ ap (λ (f : ℕ → ℕ). let v : Values = record { first = least_of old.first; zeros = f } in v) (same_least w.zeros old.zeros zeros s.zeros_wide s.zeros_high)
 
-pub still_writes : (leaves : List Leafed) (w old : Writes) → w.first.leaves ≡ old.first.leaves → w.zeros.leaves ≡ old.zeros.leaves → SameSize (cells_of w) (cells_of old) → length w.cursors ≡ length old.cursors → AreWrites leaves old → AreWrites leaves w
-still_writes leaves w old first zeros s cursors a = record {
+pub still_writes : (leaves : List Leafed) (w old : Writes) → w.first.leaves ≡ old.first.leaves → w.zeros.leaves ≡ old.zeros.leaves → SameSize (cells_of w) (cells_of old) → length w.cursors ≡ length old.cursors →
+    IsTree w.first.tree × ValuesOf w.first.tree (least_of w.first) → AreWrites leaves old → AreWrites leaves w
+still_writes leaves w old first zeros s cursors known a = record {
   shape = subst (λ (n : ℕ). IsShape n w.zeros.tree.high) (sym s.zeros_wide) (subst (λ (n : ℕ). IsShape old.zeros.tree.wide n) (sym s.zeros_high) a.shape);
   wide = s.wide ∙ a.wide ∙ sym s.zeros_wide;
   high = s.high ∙ a.high ∙ sym s.zeros_high;
@@ -144,6 +148,10 @@ still_writes leaves w old first zeros s cursors a = record {
   cursors = cursors ∙ a.cursors ∙ sym s.long;
   zeros_are = zeros ∙ a.zeros_are ∙ ap (λ (n : ℕ). zero_leaves n leaves) (sym s.planes);
   fit = subst (λ (n : ℕ). (i : ℕ) → get_or (zero_leaves n leaves) i 0 < 2 ^ 32) (sym s.planes) a.fit;
+  layers = a.layers;
+  first_are = first ∙ a.first_are;
+  first_is = known.0;
+  first_values = known.1;
 }
 
 pub raise_few : (lblock : ℕ) (parts : List HeaderPart) → lblock ≤ 32 → lblock + raise_of lblock parts ≤ 32
@@ -164,16 +172,21 @@ due_here v layer i c m cells leaves lt d moved = by (contributes e) refl
         let few : (block_at cells i).passes + passes_from layer (leaf_at leaves i).parts < 2 ^ 16 = d.few in
         let l : (block_at cells i).lblock ≤ 32 = d.lblock in
         let r = raise_few (block_at cells i).lblock (parts_in layer (leaf_at leaves i).parts) l in
-        two c split few r
+        two c is split few r
       where
-        two : (c : Bool) → passes_from layer (leaf_at leaves i).parts ≡ passes_of (parts_in layer (leaf_at leaves i).parts) + passes_from (layer + 1) (leaf_at leaves i).parts →
+        two : (c : Bool) → contributes (entry_written layer (block_at cells i) (leaf_at leaves i)) ≡ c → passes_from layer (leaf_at leaves i).parts ≡ passes_of (parts_in layer (leaf_at leaves i).parts) + passes_from (layer + 1) (leaf_at leaves i).parts →
             (block_at cells i).passes + passes_from layer (leaf_at leaves i).parts < 2 ^ 16 → (block_at cells i).lblock + raise_of (block_at cells i).lblock (parts_in layer (leaf_at leaves i).parts) ≤ 32 →
             IsDue (layer + 1) (block_at (cond c (cells_included v i (cells_first v layer i cells) (entry_written layer (block_at cells i) (leaf_at leaves i))) (cells_first v layer i cells)) i) m (leaf_at leaves i)
-        two true split few r =
+        two true is split few r =
             let known = block_at cells i in
             let after = block_after known (zero_planes known.zero v.zeros i) (entry_written layer known (leaf_at leaves i)) in
-            subst (λ (k : Known). IsDue (layer + 1) k m (leaf_at leaves i)) (sym (get_or-set_same cells.blocks i after unknown_block lt)) (record { cursor_is = moved; few = omega arith; lblock = r })
-        two false split few r = record { cursor_is = moved; few = omega arith; lblock = omega arith }
+            subst (λ (k : Known). IsDue (layer + 1) k m (leaf_at leaves i)) (sym (get_or-set_same cells.blocks i after unknown_block lt)) (record {
+              cursor_is = moved;
+              few = omega arith;
+              lblock = r;
+              fresh = λ from. absurd (let none : true ≡ false = sym is ∙ ap (λ (ps : List HeaderPart). nat_lt 0 (passes_of ps)) (from_none layer (leaf_at leaves i).parts from) in cc);
+            })
+        two false is split few r = record { cursor_is = moved; few = omega arith; lblock = omega arith; fresh = λ from. d.fresh (from_less layer (leaf_at leaves i).parts from) }
 
 pub other_same : (v : Values) (layer i j : ℕ) (cells : Cells) (e : Entry) → j ≢ i → block_at (entry_after v layer i cells e) j ≡ block_at cells j
 other_same v layer i j cells e ne = by (contributes e)
@@ -182,10 +195,10 @@ other_same v layer i j cells e ne = by (contributes e)
     by true = get_or-set_other cells.blocks i j (block_after (block_at cells i) (zero_planes (block_at cells i).zero v.zeros i) e) unknown_block ne
     by false = refl
 
-pub partly_next : (v : Values) (layer i m : ℕ) (leaves : List Leafed) (w new : Writes) → i < length w.blocks → IsPartly layer i leaves w →
+pub partly_next : (v : Values) (layer i m : ℕ) (leaves : List Leafed) (w new : Writes) → i < length w.blocks → IsPartly layer i leaves w → v.first ≡ least_of w.first →
     new.first.leaves ≡ w.first.leaves → new.zeros.leaves ≡ w.zeros.leaves → cells_of new ≡ entry_after v layer i (cells_of w) (entry_written layer (block_at (cells_of w) i) (leaf_at leaves i)) →
     new.cursors ≡ set w.cursors i m → IsCursor (layer + 1) m (leaf_at leaves i).parts → IsPartly layer (i + 1) leaves new
-partly_next v layer i m leaves w new lt p first zeros is cursors moved =
+partly_next v layer i m leaves w new lt p same first zeros is cursors moved =
     let e = entry_written layer (block_at (cells_of w) i) (leaf_at leaves i) in
     let size : SameSize (cells_of new) (cells_of w) = subst (λ (c : Cells). SameSize c (cells_of w)) (sym is) (entry_size v layer i (cells_of w) e) in
     let at : (j : ℕ) → get_or new.blocks j unknown_block ≡ block_at (entry_after v layer i (cells_of w) e) j = λ (j : ℕ). ap (λ (c : Cells). block_at c j) is in
@@ -194,7 +207,7 @@ partly_next v layer i m leaves w new lt p first zeros is cursors moved =
     let here : get_or new.cursors i 0 ≡ m = ap (λ (l : List ℕ). get_or l i 0) cursors ∙ get_or-set_same w.cursors i m 0 inside in
     let other : (j : ℕ) → j ≢ i → get_or new.cursors j 0 ≡ get_or w.cursors j 0 = λ (j : ℕ) (ne : j ≢ i). ap (λ (l : List ℕ). get_or l j 0) cursors ∙ get_or-set_other w.cursors i j m 0 ne in
     record {
-      are = still_writes leaves new w first zeros size long p.are;
+      are = still_writes leaves new w first zeros size long (first_still v layer i leaves w new e p.are lt same first is size) p.are;
       done = λ j lt'. elim (cases_eq j i) [
         | inl e' ↦ subst (λ (n : ℕ). IsDue (layer + 1) (get_or new.blocks n unknown_block) (get_or new.cursors n 0) (leaf_at leaves n)) (sym e')
             (subst (λ (k : Known). IsDue (layer + 1) k (get_or new.cursors i 0) (leaf_at leaves i)) (sym (at i))
@@ -240,7 +253,7 @@ partly_end layer at leaves w ge p = record {
         let b : get_or w.blocks j unknown_block ≡ unknown_block = get_or_past w.blocks j unknown_block le' in
         let c : get_or w.cursors j 0 ≡ 0 = get_or_past w.cursors j 0 (let n : length w.cursors ≡ length w.blocks = p.are.cursors in omega arith) in
         subst (λ (x : Leafed). IsDue (layer + 1) (get_or w.blocks j unknown_block) (get_or w.cursors j 0) x) (sym l) (subst (λ (k : Known). IsDue (layer + 1) k (get_or w.cursors j 0) no_leaf) (sym b)
-        (subst (λ (k : ℕ). IsDue (layer + 1) unknown_block k no_leaf) (sym c) (record { cursor_is = tt; few = omega arith; lblock = omega arith })))
+        (subst (λ (k : ℕ). IsDue (layer + 1) unknown_block k no_leaf) (sym c) (record { cursor_is = tt; few = omega arith; lblock = omega arith; fresh = λ from. refl })))
 
 -- ---- a call that writes a block
 -- what stands in the loop over a band's blocks
@@ -251,10 +264,19 @@ pub record Loop (layer at : ℕ) (leaves : List Leafed) (start w : Writes) (begu
   pub zeros : w.zeros.leaves ≡ start.zeros.leaves
   pub size : SameSize (cells_of w) (cells_of start)
 
+pub loop_begin : (layer : ℕ) (leaves : List Leafed) (start : Writes) (begun : List Bool) → IsWrites layer leaves start → Loop layer 0 leaves start start begun begun
+loop_begin layer leaves start begun is = record {
+  partly = record { are = is.are; done = λ i lt. absurd (omega arith); due = λ i ge. is.due i };
+  writing = record { bits_are = refl; after_is = refl };
+  first = refl;
+  zeros = refl;
+  size = no_size (cells_of start);
+}
+
 pub loop_values : (layer at : ℕ) (leaves : List Leafed) (start w : Writes) (begun bits : List Bool) → Loop layer at leaves start w begun bits → values_of w ≡ values_of start
 loop_values layer at leaves start w begun bits l = same_values w start l.first l.zeros l.size
 
-loop_next : (layer at m : ℕ) (leaves : List Leafed) (start w new : Writes) (begun bits next : List Bool) (x : Leafed) → Loop layer at leaves start w begun bits → at < length leaves → leaf_at leaves at ≡ x →
+pub loop_next : (layer at m : ℕ) (leaves : List Leafed) (start w new : Writes) (begun bits next : List Bool) (x : Leafed) → Loop layer at leaves start w begun bits → at < length leaves → leaf_at leaves at ≡ x →
     next ≡ bits ++ entry_bits (values_of w) layer at (cells_of w) (entry_written layer (block_at (cells_of w) at) x) →
     cells_of new ≡ entry_after (values_of w) layer at (cells_of w) (entry_written layer (block_at (cells_of w) at) x) →
     new.first.leaves ≡ w.first.leaves → new.zeros.leaves ≡ w.zeros.leaves → new.cursors ≡ set w.cursors at m → IsCursor (layer + 1) m x.parts → Loop layer (at + 1) leaves start new begun next
@@ -268,7 +290,7 @@ loop_next layer at m leaves start w new begun bits next x l lt x_is is is_after 
     let after' : cells_of new ≡ entry_after (values_of start) layer at (cells_of w) (e (leaf_at leaves at)) =
     is_after ∙ ap (λ (y : Leafed). entry_after (values_of w) layer at (cells_of w) (e y)) (sym x_is) ∙ ap (λ (u : Values). entry_after u layer at (cells_of w) (e (leaf_at leaves at))) v in
     record {
-      partly = partly_next (values_of start) layer at m leaves w new inside l.partly first zeros after' cursors (subst (λ (y : Leafed). IsCursor (layer + 1) m y.parts) (sym x_is) moved);
+      partly = partly_next (values_of start) layer at m leaves w new inside l.partly (ap (λ (u : Values). u.first) (sym v)) first zeros after' cursors (subst (λ (y : Leafed). IsCursor (layer + 1) m y.parts) (sym x_is) moved);
       writing = writing_next (values_of start) layer at (cells_of w) (cells_of new) leaves bits next begun (cells_of start) inside all l.writing is' after';
       first = first ∙ l.first;
       zeros = zeros ∙ l.zeros;
@@ -324,7 +346,7 @@ with_cursors w cs = record w { cursors = cs }
 abbrev pub run_of : ℕ → List LeafPart → Leafed
 run_of z parts = record { zero = z; parts = parts }
 
-abbrev entry_with : Known → List HeaderPart → Entry
+abbrev pub entry_with : Known → List HeaderPart → Entry
 entry_with known ps = record { passes = passes_of ps; raise = raise_of known.lblock ps; parts = ps }
 
 pub run_calls : (layer at : ℕ) (leaves : List Leafed) (w mid : Writes) (x : Leafed) (parts : List LeafPart) (cs : List ℕ) → IsPartly layer at leaves w → at < length leaves → leaf_at leaves at ≡ x →

@@ -1,13 +1,14 @@
 -- What is true of a precinct that is written.
-use Rattle.std.specs.Prelude.{◌≡◌, ℕ, zero, suc, ◌+◌, ◌*◌, ◌^◌, ◌<◌, ◌≤◌, nat_le, Bool, true, false, ◌++◌, List, [], ◌∷◌, length, map, take, drop, slice_index, slice_index_or, if◌then◌else◌}
+use Rattle.std.specs.Prelude.{◌≡◌, ℕ, zero, suc, ◌+◌, ◌*◌, ◌^◌, ◌<◌, ◌≤◌, nat_le, Bool, true, false, ◌++◌, List, [], ◌∷◌, length, map, take, drop, slice_index, slice_index_or, if◌then◌else◌, None}
 use Rattle.jx_tagtree.specs.Shape.{IsShape}
 use Rattle.jx_tagtree.specs.Header.{bytes_of}
+use Rattle.jx_tagtree.specs.TagTree.{IsTree, ValuesOf}
 use Rattle.jx_packet_header.specs.Precinct.{fresh_bands}
 use Rattle.jx_packet_header.specs.declared.BandCells.{BandCells}
 use Rattle.jx_packet_header.specs.declared.LeafPart.{LeafPart}
 use Rattle.jx_packet_header.specs.declared.known.Known.{Known}
 use Rattle.jx_packet_header.specs.Packet.{Cells, BandTold, bands_bits, bands_after, unknown_block}
-use Rattle.jx_packet_header.specs.Written.{Leafed, Writes, cells_of, values_of, entries_written, first_leaves, zero_leaves, some_in}
+use Rattle.jx_packet_header.specs.Written.{Leafed, Writes, cells_of, values_of, entries_written, first_leaves, zero_leaves, least_of, some_in}
 
 abbrev pub no_leaf : Leafed
 no_leaf = record { zero = 0; parts = [] }
@@ -36,13 +37,20 @@ abbrev pub AreRising : List Leafed → Type 0
 AreRising [] = Unit {0}
 AreRising (l ∷ ls) = IsRising 0 l.parts × AreRising ls
 
--- a block of which this layer and the later ones are to be written
+-- each part is of a layer or a later one
+abbrev pub AreFrom : ℕ → List LeafPart → Type 0
+AreFrom layer [] = Unit {0}
+AreFrom layer (p ∷ ps) = (layer ≤ p.layer) × AreFrom layer ps
+
+-- A block of which this layer and the later ones are to be written: where it has no part of an earlier one, no packet has
+-- included it.
 pub record IsDue (layer : ℕ) (known : Known) (cursor : ℕ) (leaf : Leafed) : Type 0 where
   pub cursor_is : IsCursor layer cursor leaf.parts
   pub few : known.passes + passes_from layer leaf.parts < 2 ^ 16
   pub lblock : known.lblock ≤ 32
+  pub fresh : AreFrom layer leaf.parts → known.zero ≡ None
 
--- a band's blocks and the leaves of its tag trees
+-- A band's blocks and the leaves of its tag trees. The nodes of that of first layers have the values of the least leaves.
 pub record AreWrites (leaves : List Leafed) (w : Writes) : Type 0 where
   pub shape : IsShape w.zeros.tree.wide w.zeros.tree.high
   pub wide : w.first.tree.wide ≡ w.zeros.tree.wide
@@ -52,6 +60,10 @@ pub record AreWrites (leaves : List Leafed) (w : Writes) : Type 0 where
   pub cursors : length w.cursors ≡ length w.blocks
   pub zeros_are : w.zeros.leaves ≡ zero_leaves w.planes leaves
   pub fit : (i : ℕ) → slice_index (zero_leaves w.planes leaves) i < 2 ^ 32
+  pub layers : ℕ
+  pub first_are : w.first.leaves ≡ first_leaves layers leaves
+  pub first_is : IsTree w.first.tree
+  pub first_values : ValuesOf w.first.tree (least_of w.first)
 
 pub record IsWrites (layer : ℕ) (leaves : List Leafed) (w : Writes) : Type 0 where
   pub are : AreWrites leaves w

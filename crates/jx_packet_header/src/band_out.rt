@@ -1,13 +1,15 @@
 //! What packet headers have of the code-blocks of a band, written (T.800, B.10).
 
-ghost use Rattle.std.specs.Prelude.{◌≡◌, ◌<◌, ◌≤◌, ◌+◌, ◌*◌, ◌^◌, ◌++◌, ◌-◌, [], true, length, take, drop, map, ℕ, IfOk, OnOk, slice_index, slice_index_or, slice_set};
+ghost use Rattle.std.specs.Prelude.{◌≡◌, ◌≢◌, ◌<◌, ◌≤◌, ◌+◌, ◌*◌, ◌^◌, ◌++◌, ◌-◌, [], true, length, take, drop, map, ℕ, IfOk, OnOk, slice_index, slice_index_or, slice_set};
 ghost use Rattle.jx_tagtree.specs.Questions.{all_bits, after_all};
+ghost use Rattle.jx_tagtree.specs.Past.{IsPast, AreUnder};
 ghost use Rattle.jx_packet_header.specs.Packet.{Entry, asked, block_at, first_bits, first_after, zero_bits, zero_after, told_bits, block_after, entry_bits, entry_after, blocks_bits, blocks_after};
 ghost use Rattle.jx_packet_header.specs.Written.{parts_in, passes_of, raise_of, entry_written, entries_written, Writes, least_of, cells_of, values_of};
 ghost use Rattle.jx_packet_header.specs.Leafs.{leaf_of};
 ghost use Rattle.jx_packet_header.specs.Writable.{IsWrites, SameSize, IsCursor, IsRising, AreRising};
 
 use crate::put::{passes_in, put_lengths, put_passes, put_raise, raise_in};
+use crate::rows::end_under;
 use crate::{Known, Leaf, LeafPart};
 use jx_base::NoMemory;
 use jx_tagtree::{BitWriter, TagWriter};
@@ -197,7 +199,29 @@ fn run_end(parts: &[LeafPart], start: usize, layer: u16, rising: bool) -> usize
     end
 }
 
-/// Writes what a layer's packet has of a band.
+/// The place on a block's way of a node of which a header of a layer has no further bit: the other blocks
+/// under it are passed over. It is 0, a node without other blocks, where none is known, and where parts
+/// don't stand in the order of their layers.
+fn silent_place(band: &BandOut, layer: u16, leaf: u32, rising: bool) -> usize
+    requires inside { leaf < length band.now.blocks }
+    requires leaf { leaf < band.now.first.tree.wide * band.now.first.tree.high }
+    ensures low { result ≤ 22 }
+    ensures past { (other : ℕ) → other < band.now.first.tree.wide * band.now.first.tree.high → other ≢ leaf → AreUnder band.now.first.tree.wide result leaf other →
+        (rising ≡ true) × IsPast band.now.first.tree other (layer + 1) }
+{
+    if !rising {
+        return 0;
+    }
+    if band.blocks[leaf as usize].zero.is_some() {
+        return 0;
+    }
+    match band.first.past(leaf, u32::from(layer) + 1) {
+        Some(place) => place,
+        None => 0,
+    }
+}
+
+/// Writes what a layer's packet has of a band, row after row of its blocks.
 pub(crate) fn write_band(
     band: &mut BandOut,
     layer: u16,
@@ -214,11 +238,24 @@ pub(crate) fn write_band(
     ensures first { OnOk result (band.new.first.leaves ≡ band.old.first.leaves) }
     ensures size { OnOk result (SameSize (cells_of band.new) (cells_of band.old)) }
 {
-    let count = leaves.len() as u32;
-    for leaf in 0..count {
+    let wide = band.first.wide();
+    let high = band.first.high();
+    let mut down = 0;
+    let mut across = 0;
+    let mut next = high;
+    while down < high {
+        let leaf = down * wide + across;
         let of = &leaves[leaf as usize];
         let (start, end) = next_run(band, leaf, &of.parts, layer, rising);
         write_block(band, leaf, layer, of.zero, &of.parts[start..end], bits)?;
+        let place = silent_place(band, layer, leaf, rising);
+        next = next.min(end_under(down, place));
+        across = end_under(across, place);
+        if across >= wide {
+            down = next;
+            across = 0;
+            next = high;
+        }
     }
     Ok(())
 }

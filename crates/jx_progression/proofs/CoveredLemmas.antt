@@ -1,5 +1,5 @@
 -- Whether each packet is covered, resolution by resolution.
-use Rattle.std.proofs.Common.{◌≡◌, ℕ, zero, suc, ◌+◌, ◌≤◌, ◌<◌, List, inl, inr, ◌⊎◌, ap, sym, subst, arith, max, length}
+use Rattle.std.proofs.Common.{◌≡◌, ◌↔◌, Bool, true, false, IsTrue, refl, ℕ, zero, suc, ◌+◌, ◌≤◌, ◌<◌, List, inl, inr, ◌⊎◌, ap, arith, max, length, slice_index}
 use Rattle.std.proofs.lemmas.Bool.{cases_eq, cases_lt}
 use Rattle.jx_geom.specs.declared.table.Resolution.{Resolution}
 use Rattle.jx_geom.specs.Geometry.{Geometry}
@@ -7,7 +7,8 @@ use Rattle.jx_geom.specs.Resolutions.{resolutions_of}
 use Rattle.jx_marker.specs.declared.Progression.{Progression}
 use Rattle.jx_progression.specs.declared.names.PacketName.{PacketName}
 use Rattle.jx_progression.specs.Packets.{AreCovered, HasUncovered, IsCovered, IsPacketName, entry_at}
-use Rattle.jx_progression.specs.Steps.{IsCoveredTo, name_of, row_at, row_of, row_end}
+use Rattle.jx_progression.specs.Groups.{AreCoveredTo}
+use Rattle.jx_progression.specs.Steps.{IsCoveredTo, IsMarked, name_of, row_of, row_end}
 use Rattle.jx_progression.proofs.RowLemmas.{end_from, end_to, index_of, packet_row, row_packet}
 
 -- one more entry
@@ -96,31 +97,55 @@ row_uncovered g layers entries i n lt some to below = (
 pub not_both : (g : Geometry) (layers : ℕ) (entries : List Progression) → HasUncovered g layers entries → AreCovered g layers entries → ⊥
 not_both g layers entries h all = h.2 (all h.0 h.1)
 
--- the same over the list that a loop walks
-pub uncovered_at : (g : Geometry) (layers : ℕ) (entries : List Progression) (rows : List Resolution) (i n : ℕ) → rows ≡ resolutions_of g → i < length rows
-    → 0 < (row_at rows i).precincts → IsCoveredTo layers entries (row_at rows i) n → n < layers → HasUncovered g layers entries
-uncovered_at g layers entries rows i n er lt some to below =
-    let P : List Resolution → Type 0 = λ rs. i < length rs → 0 < (row_at rs i).precincts → IsCoveredTo layers entries (row_at rs i) n → HasUncovered g layers entries in
-    let at : P (resolutions_of g) = λ lt some to. row_uncovered g layers entries i n lt some to below in
-    subst P (sym er) at lt some to
+-- ---- the table after some entries
+abbrev pub AreCoveredBelow : Geometry → ℕ → List Progression → List ℕ → ℕ → Type 0
+AreCoveredBelow g layers entries sent n =
+    (i : ℕ) → i < length (resolutions_of g) → CoveredBelow layers entries (row_of g i) (slice_index sent i) n
 
-pub covered_at : (g : Geometry) (layers : ℕ) (entries : List Progression) (rows : List Resolution) → rows ≡ resolutions_of g
-    → ((i : ℕ) → i < length rows → 0 < (row_at rows i).precincts → (n : ℕ) × IsCoveredTo layers entries (row_at rows i) n × (layers ≤ n)) → AreCovered g layers entries
-covered_at g layers entries rows er h =
-    let P : List Resolution → Type 0 = λ rs. ((i : ℕ) → i < length rs → 0 < (row_at rs i).precincts → (n : ℕ) × IsCoveredTo layers entries (row_at rs i) n × (layers ≤ n))
-    → AreCovered g layers entries in
-    let at : P (resolutions_of g) = λ all. all_covered g layers entries (record { each = all }) in
-    subst P (sym er) at h
+pub none_covered : (g : Geometry) (layers : ℕ) (entries : List Progression) (sent : List ℕ) → ((i : ℕ) → slice_index sent i ≡ 0)
+    → AreCoveredBelow g layers entries sent 0
+none_covered g layers entries sent none i lt = record {
+  each = λ j below. absurd (omega arith);
+  least = λ m all. omega (arith, none i);
+}
 
--- one more resolution
-pub rows_next : (layers : ℕ) (entries : List Progression) (rows : List Resolution) (i : ℕ)
-    → ((k : ℕ) → k < i → 0 < (row_at rows k).precincts → (n : ℕ) × IsCoveredTo layers entries (row_at rows k) n × (layers ≤ n))
-    → (0 < (row_at rows i).precincts → (n : ℕ) × IsCoveredTo layers entries (row_at rows i) n × (layers ≤ n))
-    → (k : ℕ) → k < i + 1 → 0 < (row_at rows k).precincts → (n : ℕ) × IsCoveredTo layers entries (row_at rows k) n × (layers ≤ n)
-rows_next layers entries rows i before own k lt = elim (cases_lt k i) [
-  | inl less ↦ before k less
-  | inr ge ↦
-      let same : k ≡ i = omega arith in
-      let P : ℕ → Type 0 = λ j. 0 < (row_at rows j).precincts → (n : ℕ) × IsCoveredTo layers entries (row_at rows j) n × (layers ≤ n) in
-      subst P (sym same) own
-]
+pub more_covered : (g : Geometry) (layers : ℕ) (entries : List Progression) (e : Progression) (sent now : List ℕ) (n : ℕ)
+    → ((q : Resolution) → row_end layers e q ≡ row_end layers (entry_at entries n) q) → AreCoveredBelow g layers entries sent n
+    → IsMarked g layers e sent now → AreCoveredBelow g layers entries now (n + 1)
+more_covered g layers entries e sent now n same h marked i lt =
+    covered_next layers entries (row_of g i) (slice_index sent i) n (row_end layers e (row_of g i)) (slice_index now i) (h i lt) (same (row_of g i)) (marked i lt)
+
+pub all_below : (g : Geometry) (layers : ℕ) (entries : List Progression) (sent : List ℕ) → AreCoveredBelow g layers entries sent (length entries)
+    → AreCoveredTo g layers entries sent
+all_below g layers entries sent h i lt = record { each = (h i lt).each; least = (h i lt).least }
+
+-- the same of an entry of another order
+pub unordered_end : (layers : ℕ) (e f : Progression) (q : Resolution) → f ≡ record e { order = 0 }
+    → row_end layers f q ≡ row_end layers e q
+unfolding row_end
+unordered_end layers e f q same = ap (λ (v : Progression). row_end layers v q) same
+
+-- ---- at the end
+pub whole_covered : (g : Geometry) (layers : ℕ) (entries : List Progression) (sent : List ℕ) → AreCoveredTo g layers entries sent
+    → ((i : ℕ) → i < length (resolutions_of g) → 0 < (row_of g i).precincts → layers ≤ slice_index sent i) → AreCovered g layers entries
+whole_covered g layers entries sent to all =
+    all_covered g layers entries (record { each = λ i lt some. (slice_index sent i, to i lt, all i lt some) })
+
+pub some_uncovered : (g : Geometry) (layers : ℕ) (entries : List Progression) (sent : List ℕ) → AreCoveredTo g layers entries sent
+    → ((i : ℕ) × (i < length (resolutions_of g)) × (0 < (row_of g i).precincts) × (slice_index sent i < layers)) → HasUncovered g layers entries
+some_uncovered g layers entries sent to h = row_uncovered g layers entries h.0 (slice_index sent h.0) h.1 h.2 (to h.0 h.1) h.3
+
+pub covered_answer : (g : Geometry) (layers : ℕ) (entries : List Progression) (sent : List ℕ) (b : Bool) → AreCoveredTo g layers entries sent
+    → (IsTrue b → (i : ℕ) → i < length (resolutions_of g) → 0 < (row_of g i).precincts → layers ≤ slice_index sent i)
+    → (b ≡ false → (i : ℕ) × (i < length (resolutions_of g)) × (0 < (row_of g i).precincts) × (slice_index sent i < layers))
+    → IsTrue b ↔ AreCovered g layers entries
+covered_answer g layers entries sent true to all lacks = (λ t. whole_covered g layers entries sent to (all t), λ h. refl)
+covered_answer g layers entries sent false to all lacks = (
+  λ t. absurd (cc),
+  λ h. absurd (not_both g layers entries (some_uncovered g layers entries sent to (lacks refl)) h),
+)
+
+pub whole_when : (g : Geometry) (layers : ℕ) (entries : List Progression) (sent : List ℕ) (b : Bool) → AreCoveredTo g layers entries sent
+    → (IsTrue b → (i : ℕ) → i < length (resolutions_of g) → 0 < (row_of g i).precincts → layers ≤ slice_index sent i)
+    → b ≡ true → AreCovered g layers entries
+whole_when g layers entries sent b to all is = whole_covered g layers entries sent to (all is)

@@ -138,7 +138,7 @@ pub record FirstAt (g : Geometry) (layers : ℕ) (e : Progression) (sent : List 
   pub precinct : by_layer o ≡ true → x.precinct ≡ 0
   pub layer : by_layer o ≡ false → x.layer ≡ slice_index sent i
 
-row_below : (g : Geometry) (i : ℕ) → 0 < (row_of g i).precincts → i < length (resolutions_of g)
+pub row_below : (g : Geometry) (i : ℕ) → 0 < (row_of g i).precincts → i < length (resolutions_of g)
 row_below g i some = elim (cases_lt i (length (resolutions_of g))) [
   | inl lt ↦ lt
   | inr past ↦

@@ -1,6 +1,5 @@
 pub mod ExistLemmas
 mod LessLemmas
-mod LoopLemmas
 mod SpreadLemmas
 pub mod OrderLemmas
 mod KeyLemmas
@@ -9,6 +8,10 @@ mod FlatLemmas
 mod GroupLemmas
 mod OrderCases
 mod SortLemmas
+mod PlacesLemmas
+mod BoundsLemmas
+mod SomeLemmas
+mod RepeatLemmas
 mod TableLemmas
 mod CoveredLemmas
 pub mod RiseLemmas

@@ -15,23 +15,23 @@ use Rattle.jx_progression.specs.Packets.{IsPacketName}
 use Rattle.jx_progression.specs.Steps.{name_of, no_resolution, row_of, row_end}
 
 -- ---- how far an entry goes
-zero_precincts : (layers : ℕ) (e : Progression) (q : Resolution) → q.precincts ≡ 0 → row_end layers e q ≡ 0
+pub zero_precincts : (layers : ℕ) (e : Progression) (q : Resolution) → q.precincts ≡ 0 → row_end layers e q ≡ 0
 unfolding row_end
 zero_precincts layers e q h = grind (arith, nat_tests)
 
-zero_comp : (layers : ℕ) (e : Progression) (q : Resolution) → q.comp < e.cs → row_end layers e q ≡ 0
+pub zero_comp : (layers : ℕ) (e : Progression) (q : Resolution) → q.comp < e.cs → row_end layers e q ≡ 0
 unfolding row_end
 zero_comp layers e q h = grind (arith, nat_tests)
 
-zero_res : (layers : ℕ) (e : Progression) (q : Resolution) → q.res < e.rs → row_end layers e q ≡ 0
+pub zero_res : (layers : ℕ) (e : Progression) (q : Resolution) → q.res < e.rs → row_end layers e q ≡ 0
 unfolding row_end
 zero_res layers e q h = grind (arith, nat_tests)
 
-zero_below : (layers : ℕ) (e : Progression) (q : Resolution) → e.re ≤ q.res → row_end layers e q ≡ 0
+pub zero_below : (layers : ℕ) (e : Progression) (q : Resolution) → e.re ≤ q.res → row_end layers e q ≡ 0
 unfolding row_end
 zero_below layers e q h = grind (arith, nat_tests)
 
-zero_end : (layers : ℕ) (e : Progression) (q : Resolution) → e.ce ≢ 0 → e.ce ≤ q.comp → row_end layers e q ≡ 0
+pub zero_end : (layers : ℕ) (e : Progression) (q : Resolution) → e.ce ≢ 0 → e.ce ≤ q.comp → row_end layers e q ≡ 0
 unfolding row_end
 zero_end layers e q some h = grind (arith, nat_tests)
 

@@ -1,5 +1,5 @@
 -- First packets in the order of their numbers, each with those that stand together with it, are packets in the order of their keys.
-use Rattle.std.proofs.Common.{◌≡◌, ◌≢◌, ℕ, ◌+◌, ◌<◌, Bool, true, false, List, [], ◌∷◌, inl, inr, ◌⊎◌, ◌↔◌, ◌∙◌, ap, sym, subst, refl, arith, length, get_or, min, slice_index}
+use Rattle.std.proofs.Common.{◌≡◌, ◌≢◌, ℕ, ◌+◌, ◌<◌, Bool, true, false, List, [], ◌∷◌, inl, inr, ◌⊎◌, ◌↔◌, ◌∙◌, ap, sym, subst, refl, arith, length, get_or, min}
 use Rattle.std.proofs.lemmas.Bool.{cases_Bool, cases_lt}
 use Rattle.std.proofs.lemmas.List.Elements.{Contains-get_or}
 use Rattle.std.proofs.lemmas.List.Sorted.{Contains-permutation, IsPermutation-sym}
@@ -10,18 +10,17 @@ use Rattle.jx_base.proofs.Joined.{joined_pairs}
 use Rattle.jx_base.proofs.Lists.{pairs_from_next}
 use Rattle.jx_geom.specs.declared.table.Resolution.{Resolution}
 use Rattle.jx_geom.specs.Geometry.{Geometry, GeometryInRange}
-use Rattle.jx_geom.specs.Resolutions.{resolutions_of}
 use Rattle.jx_marker.specs.declared.Progression.{Progression}
 use Rattle.jx_progression.specs.declared.names.PacketName.{PacketName}
 use Rattle.jx_progression.specs.declared.keys.Order.{Order}
 use Rattle.jx_progression.specs.Orders.{IsLess, ComesBefore, order_of}
-use Rattle.jx_progression.specs.Steps.{AreSorted, Lists, all_heads, by_layer, count_of, group_names, group_size, heads_at, name_of, numbers_of, one_layer, one_layer_head, one_precinct, one_precinct_head, row_end, row_heads, row_of, sent_at, sort_key}
+use Rattle.jx_progression.specs.Steps.{AreSorted, Lists, all_heads, by_layer, count_of, group_names, group_size, name_of, numbers_of, one_layer, one_layer_head, one_precinct, one_precinct_head, row_heads, sent_at, sort_key}
+use Rattle.jx_progression.specs.Tables.{AreHeads}
 use Rattle.jx_progression.proofs.FlatLemmas.{flat_from, flat_has, flat_pairs}
-use Rattle.jx_progression.proofs.GroupLemmas.{IsFirst, Listed, head_to, in_group, layer_names, layers_are, name_listed, no_heads, one_has, precinct_names, precincts_are, row_has, some_names, stands_in}
+use Rattle.jx_progression.proofs.GroupLemmas.{IsFirst, Listed, head_to, in_group, layer_names, layers_are, name_listed, no_heads, one_has, precinct_names, precincts_are, some_names, stands_in}
 use Rattle.jx_progression.proofs.LessLemmas.{less_trans}
 use Rattle.jx_progression.proofs.OrderCases.{head_layer, head_less, head_of, head_precinct, head_row, key_is, layer_rises, layer_shares, precinct_rises, precinct_shares}
 use Rattle.jx_progression.proofs.OrderLemmas.{same_fields, same_or}
-use Rattle.jx_progression.proofs.RowLemmas.{rows_once}
 
 -- ---- none is listed twice
 abbrev pub Apart : PacketName → PacketName → Type 0
@@ -43,7 +42,7 @@ precincts_apart q from m n x y lt hx hy same =
     let ey : y.precinct ≡ n = ap (λ (w : PacketName). w.precinct) (one_has (name_of from q.res q.comp n) y hy) in
     omega (arith, ap (λ (w : PacketName). w.precinct) same)
 
-row_apart : (o : Order) (q : Resolution) (from to : ℕ) → AllPairs Apart (row_heads o q from to)
+pub row_apart : (o : Order) (q : Resolution) (from to : ℕ) → AllPairs Apart (row_heads o q from to)
 row_apart o q from to =
     let P : List PacketName → Type 0 = λ xs. AllPairs Apart xs in
     elim (cases_Bool (by_layer o)) [
@@ -56,22 +55,6 @@ row_apart o q from to =
         | inr none ↦ subst P (sym (no_heads o q from to h none)) (λ m n d lt below. absurd (omega arith))
       ]
     ]
-
-rows_apart : (g : Geometry) (layers : ℕ) (e : Progression) (sent : List ℕ) (i j : ℕ) (x y : PacketName) → i < j
-    → Contains (heads_at g layers e sent i) x → Contains (heads_at g layers e sent j) y → Apart x y
-rows_apart g layers e sent i j x y lt hx hy same =
-    let a = (row_has g layers e sent (order_of e.order) i x hx).due in
-    let b = (row_has g layers e sent (order_of e.order) j y hy).due in
-    let one : i ≡ j = rows_once g i j a.below b.below (sym a.comp ∙ ap (λ (w : PacketName). w.comp) same ∙ b.comp)
-    (sym a.res ∙ ap (λ (w : PacketName). w.res) same ∙ b.res) in
-    omega arith
-
-all_apart : (g : Geometry) (layers : ℕ) (e : Progression) (sent : List ℕ) → AllPairs Apart (all_heads g layers e sent)
-unfolding all_heads
-all_apart g layers e sent =
-    joined_pairs Apart (heads_at g layers e sent) 0 (length (resolutions_of g))
-    (λ i. row_apart (order_of e.order) (row_of g i) (slice_index sent i) (row_end layers e (row_of g i)))
-    (rows_apart g layers e sent)
 
 -- ---- nor after a change of places
 abbrev decided : (x y : PacketName) → (x ≡ y) ⊎ (x ≢ y) → Bool
@@ -199,15 +182,13 @@ between g o end x y p q less cp cq =
     head_less g o p q (subst Q (sym (shares g o end y q cq)) (subst P (sym (shares g o end x p cp)) less))
 
 pub sorted_lists : (g : Geometry) (layers : ℕ) (e : Progression) (sent : List ℕ) (xs ys : List PacketName) → GeometryInRange g
-    → xs ≡ all_heads g layers e sent → IsPermutation xs ys → AreSorted g (order_of e.order) ys → Lists g layers e sent (names_of g layers e ys)
+    → AreHeads g layers e sent xs → IsPermutation xs ys → AreSorted g (order_of e.order) ys → Lists g layers e sent (names_of g layers e ys)
 sorted_lists g layers e sent xs ys range made moved sorted =
-    let C : PacketName → List PacketName → Type 0 = λ q l. Contains l q in
     let to : (x : PacketName) → Contains ys x → Contains (all_heads g layers e sent) x = λ x h.
-    subst (C x) made (Contains-permutation ys xs x (IsPermutation-sym xs ys moved) h) in
+    (made.heads x).0 (Contains-permutation ys xs x (IsPermutation-sym xs ys moved) h) in
     let from : (x : PacketName) → Contains (all_heads g layers e sent) x → Contains ys x = λ x h.
-    Contains-permutation xs ys x moved (subst (C x) (sym made) h) in
-    let P : List PacketName → Type 0 = λ l. AllPairs Apart l in
-    let apart : AllPairs Apart ys = pairs_permuted xs ys moved (subst P (sym made) (all_apart g layers e sent)) in
+    Contains-permutation xs ys x moved ((made.heads x).1 h) in
+    let apart : AllPairs Apart ys = pairs_permuted xs ys moved made.once in
     record {
       exact = exact_names g layers e sent ys to from;
       sorted = flat_pairs (Before g (order_of e.order)) (ComesBefore g (order_of e.order)) (group_names g (order_of e.order) (min e.lye layers)) ys
@@ -216,16 +197,16 @@ sorted_lists g layers e sent xs ys range made moved sorted =
     }
 
 -- none of them stands for nothing
-pub some_each : (g : Geometry) (layers : ℕ) (e : Progression) (sent : List ℕ) (xs ys : List PacketName) → xs ≡ all_heads g layers e sent
+pub some_each : (g : Geometry) (layers : ℕ) (e : Progression) (sent : List ℕ) (xs ys : List PacketName) → AreHeads g layers e sent xs
     → IsPermutation xs ys → All (λ x. 0 < group_size g (order_of e.order) (min e.lye layers) x) ys
 some_each g layers e sent xs ys made moved k d lt =
-    let C : List PacketName → Type 0 = λ l. Contains l (get_or ys k d) in
     some_names g layers e sent (order_of e.order) (get_or ys k d)
-    (head_to g layers e sent (get_or ys k d) (subst C made (Contains-permutation ys xs (get_or ys k d) (IsPermutation-sym xs ys moved) (Contains-get_or ys k d lt)))).0
+    (head_to g layers e sent (get_or ys k d)
+    ((made.heads (get_or ys k d)).0 (Contains-permutation ys xs (get_or ys k d) (IsPermutation-sym xs ys moved) (Contains-get_or ys k d lt)))).0
 
 -- ---- the same of an order and an end that are these
 pub entry_some : (g : Geometry) (layers : ℕ) (e : Progression) (sent : List ℕ) (o : Order) (end : ℕ) (xs ys zs : List PacketName) → o ≡ order_of e.order
-    → end ≡ min e.lye layers → xs ≡ all_heads g layers e sent → IsPermutation xs ys → zs ≡ ys → All (λ x. 0 < group_size g o end x) zs
+    → end ≡ min e.lye layers → AreHeads g layers e sent xs → IsPermutation xs ys → zs ≡ ys → All (λ x. 0 < group_size g o end x) zs
 entry_some g layers e sent o end xs ys zs eo ee made moved same =
     let P : Order → Type 0 = λ v. All (λ x. 0 < group_size g v end x) zs in
     let Q : ℕ → Type 0 = λ n. All (λ x. 0 < group_size g (order_of e.order) n x) zs in
@@ -233,7 +214,7 @@ entry_some g layers e sent o end xs ys zs eo ee made moved same =
     subst P (sym eo) (subst Q (sym ee) (subst R (sym same) (some_each g layers e sent xs ys made moved)))
 
 pub entry_lists : (g : Geometry) (layers : ℕ) (e : Progression) (sent : List ℕ) (o : Order) (end : ℕ) (xs ys zs names : List PacketName) → GeometryInRange g
-    → o ≡ order_of e.order → end ≡ min e.lye layers → xs ≡ all_heads g layers e sent → IsPermutation xs ys → AreSorted g o ys → zs ≡ ys
+    → o ≡ order_of e.order → end ≡ min e.lye layers → AreHeads g layers e sent xs → IsPermutation xs ys → AreSorted g o ys → zs ≡ ys
     → names ≡ flat_map (group_names g o end) zs → Lists g layers e sent names
 entry_lists g layers e sent o end xs ys zs names range eo ee made moved sorted same is =
     let P : Order → Type 0 = λ v. AreSorted g v ys in

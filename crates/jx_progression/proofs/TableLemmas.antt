@@ -13,12 +13,6 @@ use Rattle.jx_progression.specs.Steps.{IsMarked, IsTable, Lists, row_end, row_of
 use Rattle.jx_progression.proofs.OrderLemmas.{order_from}
 use Rattle.jx_progression.proofs.RowLemmas.{end_from, end_to, index_of, packet_row}
 
--- ---- the table, place by place
-pub record MarkedTo (f : ℕ → ℕ) (before now : List ℕ) (n : ℕ) : Type 0 where
-  pub done : (i : ℕ) → i < n → slice_index now i ≡ max (slice_index before i) (f i)
-  pub rest : (i : ℕ) → n ≤ i → slice_index now i ≡ slice_index before i
-  pub long : length now ≡ length before
-
 -- ---- an entry that covers a packet goes past its layer, and back
 goes_past : (g : Geometry) (layers : ℕ) (e : Progression) (p : PacketName) → IsPacketName g layers p → Covers e p
     → p.layer < row_end layers e (row_of g (index_of g p.comp p.res))

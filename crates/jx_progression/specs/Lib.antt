@@ -2,4 +2,7 @@
 pub mod Orders
 pub mod Packets
 pub mod Steps
+pub mod Groups
+pub mod Tables
+pub mod Repeats
 pub mod Loops

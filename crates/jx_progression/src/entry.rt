@@ -1,26 +1,27 @@
 //! The packets that an entry sends: the first of each group that stands together is listed and sorted, and its group is
 //! spread from it.
 
-ghost use Rattle.std.specs.Prelude.{◌≡◌, ◌≤◌, ◌++◌, IfOk, OnOk, drop, length, min, take};
+ghost use Rattle.std.specs.Prelude.{◌≡◌, ◌<◌, ◌≤◌, ◌++◌, ℕ, IfOk, OnOk, drop, length, min, take, true};
 ghost use Rattle.jx_base.specs.OrderNumbers.{IsOrderNumber};
 ghost use Rattle.std.specs.List.Sorted.{IsPermutation};
 ghost use Rattle.jx_base.specs.Joined.{joined};
-ghost use Rattle.jx_geom.specs.Geometry.{GeometryInRange};
-ghost use Rattle.jx_progression.specs.Orders.{order_of};
+ghost use Rattle.jx_geom.specs.Resolutions.{resolutions_of};
+ghost use Rattle.jx_progression.specs.Groups.{IsSent};
 ghost use Rattle.jx_progression.specs.Steps.{
   AreSorted,
-  HasPlaces,
+  IsMarked,
   Lists,
-  all_heads,
   one_layer_head,
   one_precinct_head,
   row_heads,
 };
+ghost use Rattle.jx_progression.specs.Tables.{IsReady};
 
 use crate::keys::{Order, by_layer, order_from, sort_key};
 use crate::names::PacketName;
-use crate::rows::{row_at, row_end, sent_at};
+use crate::sending::send_heads;
 use crate::spread::spread;
+use crate::table::Table;
 use jx_base::NoMemory;
 use jx_geom::{Resolution, TileGeom};
 use jx_marker::Progression;
@@ -63,7 +64,7 @@ fn push_precincts(row: Resolution, layer: u16, list: &mut Vec<PacketName>) -> Re
 
 /// Lists the first packet of each group of a resolution, of which the layers from one to an end are to be sent.
 #[tactic(auto, using(jx_base::proofs::Joined::joined_none), unfolding(crate::specs::Steps::row_heads))]
-fn push_row(
+pub(crate) fn push_row(
     order: Order,
     row: Resolution,
     from: u16,
@@ -77,27 +78,6 @@ fn push_row(
     }
     if from < to {
         return push_precincts(row, from, list);
-    }
-    Ok(())
-}
-
-/// Lists the first packet of each group that an entry sends, in the order of the resolutions.
-fn push_heads(
-    geom: &TileGeom,
-    order: Order,
-    layers: u16,
-    entry: Progression,
-    sent: &[u16],
-    list: &mut Vec<PacketName>,
-) -> Result<(), NoMemory>
-    requires order { order ≡ order_of entry.order }
-    ensures { OnOk result (list.new.items ≡ list.old.items ++ all_heads geom.now layers entry sent.now) }
-{
-    let rows = geom.resolutions();
-    for place in 0..rows.len() {
-        let row = row_at(rows, place);
-        let end = row_end(layers, entry, row);
-        push_row(order, row, sent_at(sent, place), end, list)?;
     }
     Ok(())
 }
@@ -133,25 +113,29 @@ fn sort_from(
     sort_all(alloc, geom, order, &mut list[from..])
 }
 
-/// Appends what an entry sends: its packets of the layers that weren't sent, in its order.
+/// Appends what an entry sends: its packets of the layers that weren't sent, in its order. They are marked as sent.
+/// Nothing is sent where an entry before it covers the same packets.
 pub(crate) fn push_entry(
     alloc: Global,
     geom: &TileGeom,
     layers: u16,
     entry: Progression,
-    sent: &[u16],
+    repeat: bool,
+    table: &mut Table,
     list: &mut Vec<PacketName>,
 ) -> Result<(), NoMemory>
     requires order { IsOrderNumber entry.order }
-    requires places { HasPlaces geom.now sent.now }
+    requires ready { IsReady geom.now table.old }
+    requires repeat { repeat ≡ true → (i : ℕ) → i < length (resolutions_of geom.now) → IsSent geom.now layers entry table.old.sent.items i }
     ensures front { OnOk result (take (length list.old.items) list.new.items ≡ list.old.items) }
-    ensures lists { OnOk result (Lists geom.now layers entry sent.now (drop (length list.old.items) list.new.items)) }
-    ensures range { GeometryInRange geom.now }
+    ensures lists { OnOk result (Lists geom.now layers entry table.old.sent.items (drop (length list.old.items) list.new.items)) }
+    ensures marked { OnOk result (IsMarked geom.now layers entry table.old.sent.items table.new.sent.items) }
+    ensures ready { OnOk result (IsReady geom.now table.new) }
 {
     let _components = geom.components();
     let order = order_from(entry.order);
     let from = list.len();
-    push_heads(geom, order, layers, entry, sent, list)?;
+    send_heads(geom, layers, entry, repeat, table, list)?;
     sort_from(alloc, geom, order, from, list)?;
     spread(geom, order, entry.lye.min(layers), from, list)?;
     Ok(())

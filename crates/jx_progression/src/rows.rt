@@ -1,9 +1,7 @@
 //! How far an entry goes in a resolution, and how many of its layers were sent.
 
-ghost use Rattle.std.specs.Prelude.{◌≡◌, ◌<◌, ◌≤◌, ◌+◌, ℕ, max, IfOk, length, slice_index, slice_set};
-ghost use Rattle.jx_geom.specs.Geometry.{Geometry};
-ghost use Rattle.jx_geom.specs.Resolutions.{resolutions_of};
-ghost use Rattle.jx_progression.specs.Steps.{HasPlaces, IsMarked, row_at, row_end};
+ghost use Rattle.std.specs.Prelude.{◌≡◌, ℕ, IfOk, slice_index};
+ghost use Rattle.jx_progression.specs.Steps.{HasPlaces, row_at, row_end};
 
 use jx_base::NoMemory;
 use jx_geom::{Resolution, TileGeom};
@@ -68,32 +66,5 @@ pub(crate) fn sent_at(sent: &[u16], place: usize) -> u16
     match sent.get(place) {
         Some(layers) => *layers,
         None => 0,
-    }
-}
-
-/// The larger of two numbers of layers.
-pub(crate) fn larger(first: u16, second: u16) -> u16
-    ensures { result ≡ max first second }
-{
-    first.max(second)
-}
-
-/// Marks what an entry sends of the resolution at a place.
-fn mark_row(rows: &[Resolution], layers: u16, entry: Progression, place: usize, sent: &mut [u16])
-    requires { place < length sent.old }
-    ensures { sent.new ≡ slice_set sent.old place (max (slice_index sent.old place) (row_end layers entry (row_at rows.now place))) }
-{
-    sent[place] = sent[place].max(row_end(layers, entry, row_at(rows, place)));
-}
-
-/// Marks what an entry sends as sent.
-pub(crate) fn mark(geom: &TileGeom, layers: u16, entry: Progression, sent: &mut [u16])
-    requires { HasPlaces geom.now sent.old }
-    ensures marked { IsMarked geom.now layers entry sent.old sent.new }
-    ensures places { HasPlaces geom.now sent.new }
-{
-    let rows = geom.resolutions();
-    for place in 0..sent.len() {
-        mark_row(rows, layers, entry, place, sent);
     }
 }

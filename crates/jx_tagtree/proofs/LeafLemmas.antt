@@ -365,6 +365,13 @@ least_none_below ways n first (suc k) (leaf ∷ leaves) lt h =
     by true le = omega arith
     by false le = le
 
+-- a leaf's own isn't above it
+pub least_le_leaf : (wide high : ℕ) (leaves : List ℕ) (l : ℕ) → IsShape wide high → length leaves ≡ wide * high → l < wide * high → least_leaf wide high leaves l ≤ get_or leaves l 0
+least_le_leaf wide high leaves l s all lt =
+    least_none_below (way wide high) l 0 l leaves (omega arith)
+    (subst (λ (q : ℕ). passes l (way wide high q) ≡ true) (let e : l ≡ 0 + l = omega arith in e)
+    (passes-first (parent wide high) (root wide high) l (way wide high l) (way_is wide high l s lt)))
+
 -- it is one of them, or none is below the largest number of 32 bits
 least_one : (ways : ℕ → List ℕ) (n first : ℕ) (leaves : List ℕ) →
     ((k : ℕ) × (k < length leaves) × (passes n (ways (first + k)) ≡ true) × (least_from ways n first leaves ≡ get_or leaves k 0)) ⊎ (least_from ways n first leaves ≡ 2 ^ 32 - 1)

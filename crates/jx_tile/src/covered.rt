@@ -56,14 +56,18 @@ impl<'a> TileFrame<'a> {
     ///
     /// # Errors
     ///
-    /// Rule 25 at the tile's first SOT where one isn't.
-    pub fn check(&self) -> Result<(), StreamFault>
+    /// Rule 25 at the tile's first SOT where one isn't; `NoMemory` where memory is refused.
+    pub fn check(&self, alloc: Global) -> Result<(), StreamFault>
         ensures whole { OnOk result (IsWhole self.now.stream self.now.number) }
         ensures uncovered { IfErr result (λ fault. HasCause (LacksPacket self.now.stream self.now.number) fault) }
     {
         let tile = self.tile();
         let (_, view, geom) = self.parts();
-        if are_covered(geom, view.layers(), tile.progressions.as_slice()) {
+        let whole = match are_covered(alloc, geom, view.layers(), tile.progressions.as_slice()) {
+            Ok(whole) => whole,
+            Err(_) => return Err(StreamFault::NoMemory),
+        };
+        if whole {
             return Ok(());
         }
         Err(uncovered(tile))
@@ -85,7 +89,7 @@ fn check_tile(
     ensures uncovered { IfErr result (λ fault. HasCause (LacksPacket stream.now tile) fault) }
 {
     let frame = TileFrame::new(alloc, stream, main, tile)?;
-    let result = frame.check();
+    let result = frame.check(alloc);
     drop(frame);
     result
 }

@@ -1,23 +1,16 @@
-use Rattle.std.proofs.Common.{refl, arith}
-use Rattle.jx_progression.proofs.CoveredLemmas.{covered_at, not_both, uncovered_at}
+use Rattle.std.proofs.Common.{ℕ, List, subst, sym}
+use Rattle.jx_progression.specs.Groups.{AreCoveredTo}
+use Rattle.jx_progression.proofs.CoveredLemmas.{covered_answer, some_uncovered}
 use Rattle.jx_progression.proofs.covered.are_covered.Goals as goal
 
-pub returns-then-covered_to-layers-clause-whole : goal.returns-then-covered_to-layers-clause-whole
-returns-then-covered_to-layers-clause-whole c = (
-  λ t. absurd (cc),
-  λ all. absurd (not_both c.args.geom.now c.args.layers c.args.entries.now
-      (uncovered_at c.args.geom.now c.args.layers c.args.entries.now c.resolutions-rows.result.now c.loop-row.row-index c.covered_to.result
-      c.resolutions-rows.ensures (omega arith) c.if-row-gt0.true c.covered_to.ensures c.if-covered_to-layers.true) all),
-)
-
-pub returns-then-covered_to-layers-clause-lacks : goal.returns-then-covered_to-layers-clause-lacks
-returns-then-covered_to-layers-clause-lacks c = λ e.
-    uncovered_at c.args.geom.now c.args.layers c.args.entries.now c.resolutions-rows.result.now c.loop-row.row-index c.covered_to.result
-    c.resolutions-rows.ensures (omega arith) c.if-row-gt0.true c.covered_to.ensures c.if-covered_to-layers.true
-
 pub returns-clause-whole : goal.returns-clause-whole
-returns-clause-whole c = (
-  λ t. covered_at c.args.geom.now c.args.layers c.args.entries.now c.resolutions-rows.result.now c.resolutions-rows.ensures
-      (λ i lt. c.loop-row.invariant i (omega arith)),
-  λ all. refl,
-)
+returns-clause-whole c =
+    let P : List ℕ → Type 0 = λ ss. AreCoveredTo c.args.geom.now c.args.layers c.args.entries.now ss in
+    covered_answer c.args.geom.now c.args.layers c.args.entries.now c.deref.result.now c.are_all_sent.result
+    (subst P (sym c.deref.ensures.value) c.in_ok-send_all.ensures) c.are_all_sent.ensures.whole c.are_all_sent.ensures.lacks
+
+pub returns-clause-lacks : goal.returns-clause-lacks
+returns-clause-lacks c = λ f.
+    (let P : List ℕ → Type 0 = λ ss. AreCoveredTo c.args.geom.now c.args.layers c.args.entries.now ss in
+    some_uncovered c.args.geom.now c.args.layers c.args.entries.now c.deref.result.now (subst P (sym c.deref.ensures.value) c.in_ok-send_all.ensures)
+    (c.are_all_sent.ensures.lacks f))
