@@ -3,6 +3,7 @@ use Rattle.std.proofs.Common.{◌≡◌, ◌<◌, ◌≤◌, ◌*◌, ◌^◌, �
 use Rattle.std.proofs.lemmas.Bool.{cases_lt, lt-leb, le-leb}
 use Rattle.std.proofs.Math.Nat.{two-pow-succ}
 use Rattle.jx_coder_specs.specs.MqReading.{MqReader, mq_byte_in, mq_shifted_in, mq_refilled}
+use Rattle.jx_mq.specs.Decoding.{IsWithin, IsRefilling}
 
 pub twice_is : (a n : ℕ) → 2 * a * 2 ^ n ≡ a * 2 ^ suc n
 twice_is a n = rw two-pow-succ (grind arith)
@@ -41,3 +42,11 @@ refilled_enough bytes (suc n) (suc m) r p q =
           refilled_more bytes n r less ∙ refilled_enough bytes n m (mq_shifted_in bytes r) p' q' ∙ sym (refilled_more bytes m r less)
       | inr most ↦ refilled_done bytes (suc n) r most ∙ sym (refilled_done bytes (suc m) r most)
     ]
+
+pub refilling_begins : (bytes : List ℕ) (r : MqReader) → IsWithin bytes r → 0 < r.a → r.a < 65536 → IsRefilling bytes r r
+refilling_begins bytes r within some room = record {
+  leads = λ n enough. refilled_enough bytes n 15 r enough (omega arith);
+  within = within;
+  some = some;
+  room = room;
+}

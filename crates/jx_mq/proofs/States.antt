@@ -1,6 +1,7 @@
 -- The code's table is the definition's, a row for each state, and how contexts move.
-use Rattle.std.proofs.Common.{◌≡◌, ◌<◌, ◌≤◌, ◌+◌, ◌-◌, ◌*◌, ◌/◌, ◌%◌, ℕ, zero, suc, Bool, true, false, List, [], ◌∷◌, ◌++◌, get_or, refl, ap, sym, ◌∙◌, ◌==◌, arith, inl, inr, if◌then◌else◌}
+use Rattle.std.proofs.Common.{◌≡◌, ◌<◌, ◌≤◌, ◌+◌, ◌-◌, ◌*◌, ◌/◌, ◌%◌, ℕ, zero, suc, Bool, true, false, not, List, [], ◌∷◌, ◌++◌, get_or, refl, ap, sym, ◌∙◌, arith, inl, inr, if◌then◌else◌}
 use Rattle.std.specs.Prelude.{slice_index_or}
+use mir.Val.{bool_byte}
 use Rattle.std.proofs.lemmas.List.{map-set}
 use Rattle.std.proofs.Math.ListN.{set, get_or-map, get_or-append}
 use Rattle.std.proofs.lemmas.Bool.{cases_lt, cases_eq, lt-leb, le-leb, eq-eqb, ne_eqb}
@@ -117,16 +118,15 @@ next_known state a top d false inside room e f =
           ])
     ]
 
-none_or_one : (lps : ℕ) → lps < 2 → lps ≡ (if lps == 0 then 0 else 1)
-none_or_one zero few = refl
-none_or_one (suc zero) few = refl
-none_or_one (suc (suc n)) few = absurd (omega arith)
+not_byte : (b : Bool) → bool_byte (not b) ≡ (if b then 0 else 1)
+not_byte true = refl
+not_byte false = refl
 
 -- the place in the table by the two top bits of A, which is in the upper half of 32 bits
-pub next_is_at : (state a lps : ℕ) → state < 94 → a < 4294967296 → lps < 2 →
-    get_or NEXT (state * 8 + a / 1073741824 * 2 + lps) 0 ≡ next_state state (a / 65536) (lps == 0)
-next_is_at state a lps inside room few =
-    next_known state (a / 65536) (a / 1073741824) lps (lps == 0) inside (omega arith) (omega arith) (none_or_one lps few)
+pub next_is_at : (state a : ℕ) (is_mps : Bool) → state < 94 → a < 4294967296 →
+    get_or NEXT (state * 8 + a / 1073741824 * 2 + bool_byte (not is_mps)) 0 ≡ next_state state (a / 65536) is_mps
+next_is_at state a is_mps inside room =
+    next_known state (a / 65536) (a / 1073741824) (bool_byte (not is_mps)) is_mps inside (omega arith) (omega arith) (not_byte is_mps)
 
 state_known : (row : ℕ) (symbol : Bool) → row < 47 → state_of row symbol < 94
 state_known row true less = omega arith

@@ -1,43 +1,32 @@
 -- What contracts see of a decoder, and the bounds of its registers.
-use Rattle.std.specs.Prelude.{◌≡◌, ◌<◌, ◌≤◌, ◌+◌, ◌-◌, ◌%◌, ℕ, List, length}
-use Rattle.std.specs.Int.Count.{count_trailing_zeros}
-use Rattle.jx_coder_specs.specs.MqReading.{MqReader}
-use Rattle.jx_mq.specs.Ahead.{MqTaken, MqStand, stands, ahead_under, reader_with, IsAhead}
+use Rattle.std.specs.Prelude.{◌≡◌, ◌<◌, ◌≤◌, ◌+◌, ◌*◌, ◌/◌, ◌^◌, ℕ, List, length}
+use Rattle.jx_coder_specs.specs.MqReading.{MqReader, mq_refilled}
 use Rattle.jx_mq.specs.declared.decoder.Registers.{Registers}
-use Rattle.jx_mq.specs.declared.stand.Stand.{Stand}
-use Rattle.jx_mq.specs.declared.stand.Taken.{Taken}
 
 -- the segment, and the registers
 pub record MqDecoding : Type 0 where
   pub bytes : List ℕ
   pub reader : MqReader
 
-abbrev pub stand_now : Stand → MqStand
-stand_now s = record { ct = s.ct; place = s.place; looked = s.looked }
+-- the registers that the code's stand for: its A is in the upper half of 32 bits
+abbrev pub reader_of : Registers → MqReader
+reader_of r = record { a = r.a / 65536; c = r.c; ct = r.ct; place = r.place; looked = r.looked }
 
-abbrev pub taken_as : Taken → MqTaken
-taken_as t = record { value = t.value; width = t.width; place = t.place }
-
--- the registers that the code's stand for: since bytes were read ahead there were as many shifts as fewer bits are ahead now than then
-abbrev pub reader_of : List ℕ → Registers → MqReader
-reader_of bytes r = reader_with r.a r.c (stands bytes (r.past + (r.ahead - ahead_under r.c)) (stand_now r.stand))
-
--- the code's registers stand for those
-pub record IsHeld (bytes : List ℕ) (r : Registers) : Type 0 where
-  pub count : ℕ
-  pub front : IsAhead bytes (reader_of bytes r) r.c (ahead_under r.c) r.place count
-  pub zeros : count_trailing_zeros 64 r.c ≤ 46
-  pub since : ahead_under r.c ≤ r.ahead
-  pub most : r.ahead ≤ 46
-  pub past : r.past ≤ 1046
-  pub wide : r.a % 140737488355328 ≡ 0
-  pub room : r.a < 9223372036854775808
-  pub within : r.place ≤ length bytes
-  pub place : r.stand.place ≤ length bytes
-  pub looked : r.stand.looked ≤ r.stand.place + 2
-  pub ct : r.stand.ct ≤ 8
+-- the current byte is one of the segment's, or the first one past its end
+pub record IsWithin (bytes : List ℕ) (r : MqReader) : Type 0 where
+  pub place : r.place ≤ length bytes
+  pub looked : r.looked ≤ r.place + 2
+  pub ct : r.ct ≤ 8
 
 -- between decisions A has bit 15
-pub record IsReading (r : MqReader) : Type 0 where
+pub record IsReading (bytes : List ℕ) (r : MqReader) : Type 0 where
+  pub within : IsWithin bytes r
   pub low : 32768 ≤ r.a
   pub high : r.a < 65536
+
+-- shifts lead from the first registers to these, and as many as A still needs lead on
+pub record IsRefilling (bytes : List ℕ) (first now : MqReader) : Type 0 where
+  pub leads : (n : ℕ) → 32768 ≤ now.a * 2 ^ n → mq_refilled bytes n now ≡ mq_refilled bytes 15 first
+  pub within : IsWithin bytes now
+  pub some : 0 < now.a
+  pub room : now.a < 65536

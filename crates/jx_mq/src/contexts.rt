@@ -1,4 +1,4 @@
-ghost use Rattle.std.specs.Prelude.{◌≡◌, ◌/◌, ◌<◌, ◌==◌, ℕ, All, slice_index_or};
+ghost use Rattle.std.specs.Prelude.{◌≡◌, ◌/◌, ◌<◌, ℕ, All, slice_index_or};
 ghost use Rattle.jx_coder_specs.specs.MqTable.{MqContexts, mq_fresh, mq_row_of, mq_mps, mq_adapted};
 ghost use Rattle.jx_mq.specs.States.{contexts_of, row_in, symbol_in, IsNarrowed};
 
@@ -43,18 +43,16 @@ impl Contexts {
         self.states[label as usize]
     }
 
-    /// Moves a label, whose state is given, after a decision that is the less probable symbol (1), or isn't
-    /// (0). A is the part's width before its shifts, in the upper half of 32 bits.
+    /// Moves a label, whose state is given, after a decision that is the more probable symbol, or
+    /// isn't. A is the part's width before its shifts, in the upper half of 32 bits.
     #[inline(always)]
-    pub(crate) fn adapt(&mut self, label: u8, state: u8, a: u64, lps: u64)
+    pub(crate) fn adapt(&mut self, label: u8, state: u8, a: u32, is_mps: bool)
         requires label { label < 19 }
         requires row { row_in state ≡ slice_index_or self.old.rows label 0 }
         requires symbol { symbol_in state ≡ mq_mps self.old label }
         requires known { state < 94 }
-        requires fits { a < 4294967296 }
-        requires bit { lps < 2 }
-        ensures { (before : ℕ) → IsNarrowed before (mq_row_of self.old label).qe (a / 65536) (lps == 0) → self.new ≡ mq_adapted before self.old label (lps == 0) }
+        ensures { (before : ℕ) → IsNarrowed before (mq_row_of self.old label).qe (a / 65536) is_mps → self.new ≡ mq_adapted before self.old label is_mps }
     {
-        self.states[label as usize] = state_after(state, a, lps);
+        self.states[label as usize] = state_after(state, a, is_mps);
     }
 }

@@ -1,218 +1,105 @@
-ghost use Rattle.std.specs.Prelude.{◌≡◌, ◌+◌, ◌*◌, ◌/◌, ◌%◌, ◌^◌, ◌<◌, ◌≤◌, ◌==◌, min, length};
-ghost use Rattle.std.specs.Int.Count.{count_trailing_zeros};
+ghost use Rattle.std.specs.Prelude.{◌≡◌, ◌*◌, ◌/◌, ◌%◌, ◌^◌, ◌<◌, ◌≤◌, min, length};
 ghost use Rattle.jx_coder_specs.specs.MqTable.{mq_row_of};
-ghost use Rattle.jx_coder_specs.specs.MqReading.{mq_byte_in, mq_reader, mq_refilled, mq_reads_mps, mq_chosen, mq_read, mq_bit, mq_after};
-ghost use Rattle.jx_mq.specs.Ahead.{mq_taken, ahead_under, mq_shifts};
-ghost use Rattle.jx_mq.specs.Decoding.{MqDecoding, taken_as, reader_of, IsHeld, IsReading};
-ghost use Rattle.jx_mq.specs.Shifting.{IsShort};
+ghost use Rattle.jx_coder_specs.specs.MqReading.{mq_byte, mq_byte_in, mq_reader, mq_refilled, mq_is_low, mq_reads_mps, mq_chosen, mq_read, mq_bit, mq_after};
+ghost use Rattle.jx_mq.specs.Decoding.{MqDecoding, reader_of, IsWithin, IsReading};
+ghost use Rattle.jx_mq.specs.Shifting.{mq_shifted_by, IsShort};
 
 use crate::choice::either;
 use crate::contexts::Contexts;
-use crate::stand::{Stand, Taken, byte_at, byte_in};
 use crate::table::width_of;
 use std::marker::Model;
 
-/// A register of 63 bits.
-const REGISTER: u64 = 0x7FFF_FFFF_FFFF_FFFF;
+/// The byte at a place, and FF past the end.
+fn byte_at(bytes: &[u8], place: usize) -> u8
+    ensures { result ≡ mq_byte bytes.now place }
+{
+    if place < bytes.len() {
+        bytes[place]
+    } else {
+        0xFF
+    }
+}
 
-/// A, with its 16 bits at the top of 63, and C: below its 16 bits that are compared stand CT bits and those of bytes that
-/// were read ahead, and below them a 1. Beside them is where the standard's decoder stood some shifts ago: how many it had
-/// done since when bytes were last read ahead, how many bits were ahead then, and the place of B after those bytes.
+/// The registers A (in the upper half of 32 bits), C and CT, the place of the byte B, and how many
+/// bytes were read or compared. They come and go as values, so a caller can keep its own in the
+/// machine's.
 #[derive(Clone, Copy, Drop)]
 struct Registers {
-    a: u64,
-    c: u64,
-    stand: Stand,
-    past: u32,
-    ahead: u32,
+    a: u32,
+    c: u32,
+    ct: u32,
     place: usize,
+    looked: usize,
 }
 
 impl Registers {
-    /// How many bits are ahead, by the 1 below them.
-    #[inline(always)]
-    fn bits_ahead(self) -> u32
-        requires { count_trailing_zeros 64 self.c ≤ 46 }
-        ensures { result ≡ ahead_under self.c }
-    {
-        46 - self.c.trailing_zeros()
-    }
-
-    /// The same registers, with where the standard's decoder stands now.
-    fn stood(self, bytes: &[u8]) -> Registers
-        requires { IsHeld bytes.now self }
-        ensures reader { reader_of bytes.now result ≡ reader_of bytes.now self }
-        ensures held { IsHeld bytes.now result }
-        ensures settled { result.ahead ≡ ahead_under result.c }
-        ensures past { result.past ≡ 0 }
-        ensures a { result.a ≡ self.a }
-        ensures c { result.c ≡ self.c }
-    {
-        let ahead = self.bits_ahead();
-        let stand = self.stand.moved(self.past + (self.ahead - ahead), bytes);
-        Registers {
-            a: self.a,
-            c: self.c,
-            stand,
-            past: 0,
-            ahead,
-            place: self.place,
-        }
-    }
-
-    /// The same registers, with how many bits are ahead now. The bytes between are gone over once in a while.
-    #[inline(always)]
-    fn settled(self, bytes: &[u8]) -> Registers
-        requires { IsHeld bytes.now self }
-        ensures reader { reader_of bytes.now result ≡ reader_of bytes.now self }
-        ensures held { IsHeld bytes.now result }
-        ensures settled { result.ahead ≡ ahead_under result.c }
-        ensures a { result.a ≡ self.a }
-        ensures c { result.c ≡ self.c }
-    {
-        if self.past > 1000 {
-            return self.stood(bytes);
-        }
-        let ahead = self.bits_ahead();
-        Registers {
-            a: self.a,
-            c: self.c,
-            stand: self.stand,
-            past: self.past + (self.ahead - ahead),
-            ahead,
-            place: self.place,
-        }
-    }
-
-    /// How many bytes were read or compared.
-    fn looked(self, bytes: &[u8]) -> usize
-        requires { IsHeld bytes.now self }
-        ensures { result ≡ (reader_of bytes.now self).looked }
-    {
-        let now = self.stood(bytes);
-        now.stand.looked
-    }
-
-    /// The same registers with a byte more ahead, which doesn't carry into those before it.
-    #[inline(always)]
-    fn with(self, byte: Taken, bytes: &[u8]) -> Registers
-        requires held { IsHeld bytes.now self }
-        requires settled { self.ahead ≡ ahead_under self.c }
-        requires byte { taken_as byte ≡ mq_taken bytes.now self.place }
-        requires within { byte.place ≤ length bytes.now }
-        requires plain { byte.value < 2 ^ byte.width }
-        requires byte_fits { byte.value < 256 }
-        requires room { self.ahead ≤ 38 }
-        ensures reader { reader_of bytes.now result ≡ reader_of bytes.now self }
-        ensures held { IsHeld bytes.now result }
-        ensures settled { result.ahead ≡ ahead_under result.c }
-        ensures ahead { result.ahead ≡ self.ahead + byte.width }
-        ensures a { result.a ≡ self.a }
-    {
-        let ahead = self.ahead + byte.width;
-        let c = self.c - (1u64 << (46 - self.ahead))
-            + (byte.value << (47 - ahead))
-            + (1u64 << (46 - ahead));
-        Registers {
-            a: self.a,
-            c,
-            stand: self.stand,
-            past: self.past,
-            ahead,
-            place: byte.place,
-        }
-    }
-
-    /// The same registers with as many bytes ahead as there is room for. A byte 80 to 8F after FF carries into the bits
-    /// before it, and isn't read before the standard's decoder needs it.
-    fn filled(self, bytes: &[u8]) -> Registers
-        requires held { IsHeld bytes.now self }
-        requires settled { self.ahead ≡ ahead_under self.c }
-        ensures reader { reader_of bytes.now result ≡ reader_of bytes.now self }
-        ensures held { IsHeld bytes.now result }
-        ensures settled { result.ahead ≡ ahead_under result.c }
-        ensures ahead { self.ahead ≤ result.ahead }
-        ensures a { result.a ≡ self.a }
-    {
-        let mut now = self;
-        while now.ahead <= 38 {
-            let byte = byte_in(bytes, now.place);
-            if byte.value >> byte.width != 0 {
-                break;
-            }
-            now = now.with(byte, bytes);
-        }
-        now
-    }
-
-    /// BYTEIN (Annex C.3.4) where no bit is ahead.
+    /// BYTEIN (Annex C.3.4).
     fn fed(self, bytes: &[u8]) -> Registers
-        requires held { IsHeld bytes.now self }
-        requires settled { self.ahead ≡ ahead_under self.c }
-        requires due { self.ahead ≡ 0 }
-        requires past { self.past ≡ 0 }
-        ensures reader { reader_of bytes.now result ≡ mq_byte_in bytes.now (reader_of bytes.now self) }
-        ensures held { IsHeld bytes.now result }
-        ensures settled { result.ahead ≡ ahead_under result.c }
-        ensures ahead { 6 < result.ahead }
+        requires { IsWithin bytes.now (reader_of self) }
+        ensures registers { reader_of result ≡ mq_byte_in bytes.now (reader_of self) }
         ensures a { result.a ≡ self.a }
+        ensures within { IsWithin bytes.now (reader_of result) }
     {
-        let byte = byte_in(bytes, self.place);
-        let c = self.c - (1u64 << 46)
-            + (byte.value << (47 - byte.width))
-            + (1u64 << (46 - byte.width));
-        let stand = self.stand.fed(bytes);
-        Registers {
-            a: self.a,
-            c: c & REGISTER,
-            stand,
-            past: 0,
-            ahead: byte.width,
-            place: byte.place,
+        let current = byte_at(bytes, self.place);
+        let next = byte_at(bytes, self.place + 1);
+        let mut fed = self;
+        fed.looked = self.place + 2;
+        if current != 0xFF {
+            fed.c = self.c.wrapping_add(next as u32 * 256);
+            fed.ct = 8;
+            fed.place = self.place + 1;
+        } else if next > 0x8F {
+            fed.c = self.c.wrapping_add(0xFF00);
+            fed.ct = 8;
+        } else {
+            fed.c = self.c.wrapping_add(next as u32 * 512);
+            fed.ct = 7;
+            fed.place = self.place + 1;
         }
+        fed
     }
 
-    /// Shifts of RENORMD (Annex C.3.3) for which enough bits are ahead.
+    /// Shifts of RENORMD for which no byte is due.
     #[inline(always)]
-    fn shifted(self, by: u32, bytes: &[u8]) -> Registers
-        requires held { IsHeld bytes.now self }
-        requires ahead { by ≤ ahead_under self.c }
-        requires room { self.a / 140737488355328 * 2 ^ by < 65536 }
-        ensures reader { reader_of bytes.now result ≡ mq_shifts bytes.now by (reader_of bytes.now self) }
-        ensures held { IsHeld bytes.now result }
-        ensures ahead { ahead_under result.c + by ≡ ahead_under self.c }
-        ensures a { result.a / 140737488355328 ≡ self.a / 140737488355328 * 2 ^ by }
+    fn shifted(self, by: u32) -> Registers
+        requires due { by ≤ self.ct }
+        requires ct { self.ct ≤ 8 }
+        requires wide { self.a % 65536 ≡ 0 }
+        requires room { self.a / 65536 * 2 ^ by < 65536 }
+        ensures registers { reader_of result ≡ mq_shifted_by by (reader_of self) }
+        ensures wide { result.a % 65536 ≡ 0 }
+        ensures fits { self.c < 4294967296 }
+        ensures place { result.place ≡ self.place }
+        ensures looked { result.looked ≡ self.looked }
     {
         Registers {
             a: self.a << by,
-            c: self.c << by & REGISTER,
-            stand: self.stand,
-            past: self.past,
-            ahead: self.ahead,
+            c: self.c << by,
+            ct: self.ct - by,
             place: self.place,
+            looked: self.looked,
         }
     }
 
-    /// RENORMD (Annex C.3.3) by so many shifts, as A needs, where bytes are to be read ahead.
+    /// RENORMD (Annex C.3.3) by so many shifts, as A needs, of which CT has no room for all. A byte
+    /// is read once a shift needs it, and no sooner.
+    #[inline(always)]
     fn fed_by(self, shifts: u32, bytes: &[u8]) -> Registers
-        requires held { IsHeld bytes.now self }
-        requires shifts { IsShort (self.a / 140737488355328) shifts }
-        ensures reader { reader_of bytes.now result ≡ mq_refilled bytes.now 15 (reader_of bytes.now self) }
-        ensures held { IsHeld bytes.now result }
-        ensures reading { IsReading (reader_of bytes.now result) }
+        requires within { IsWithin bytes.now (reader_of self) }
+        requires wide { self.a % 65536 ≡ 0 }
+        requires shifts { IsShort (self.a / 65536) shifts }
+        ensures registers { reader_of result ≡ mq_refilled bytes.now 15 (reader_of self) }
+        ensures wide { result.a % 65536 ≡ 0 }
+        ensures reading { IsReading bytes.now (reader_of result) }
     {
-        let begun = self.settled(bytes).filled(bytes);
-        let mut now = begun;
+        let mut now = self;
         let mut left = shifts;
-        while left > now.ahead {
-            let by = now.ahead;
-            let moved = now.shifted(by, bytes);
-            let due = moved.stood(bytes);
-            let fed = due.fed(bytes);
-            now = fed.filled(bytes);
-            left -= by;
+        while left > now.ct {
+            let ready = now.ct;
+            now = now.shifted(ready).fed(bytes);
+            left -= ready;
         }
-        now.shifted(left, bytes)
+        now.shifted(left)
     }
 
     /// RENORMD (Annex C.3.3) by so many shifts, after which A and C are those of a part of the
@@ -220,12 +107,13 @@ impl Registers {
     /// decision.
     #[cold]
     #[inline(never)]
-    fn feed(&mut self, a: u64, c: u64, shifts: u32, bytes: &[u8])
-        requires held { IsHeld bytes.now (record self.old { a = a; c = c }) }
-        requires shifts { IsShort (a / 140737488355328) shifts }
-        ensures reader { reader_of bytes.now self.new ≡ mq_refilled bytes.now 15 (reader_of bytes.now (record self.old { a = a; c = c })) }
-        ensures held { IsHeld bytes.now self.new }
-        ensures reading { IsReading (reader_of bytes.now self.new) }
+    fn feed(&mut self, a: u32, c: u32, shifts: u32, bytes: &[u8])
+        requires within { IsWithin bytes.now (reader_of (record self.old { a = a; c = c })) }
+        requires wide { a % 65536 ≡ 0 }
+        requires shifts { IsShort (a / 65536) shifts }
+        ensures registers { reader_of self.new ≡ mq_refilled bytes.now 15 (reader_of (record self.old { a = a; c = c })) }
+        ensures wide { self.new.a % 65536 ≡ 0 }
+        ensures reading { IsReading bytes.now (reader_of self.new) }
     {
         let mut part = *self;
         part.a = a;
@@ -234,58 +122,67 @@ impl Registers {
     }
 
     /// RENORMD (Annex C.3.3) of a part of the interval, in place. Where A has bit 15 there are no
-    /// shifts. Bytes are read ahead before fewer than 15 bits are left, the most that a decision takes.
+    /// shifts.
     #[inline(always)]
     fn refill(&mut self, part: Registers, bytes: &[u8])
         requires same { part ≡ record self.old { a = part.a; c = part.c } }
-        requires held { IsHeld bytes.now part }
+        requires within { IsWithin bytes.now (reader_of part) }
+        requires wide { part.a % 65536 ≡ 0 }
         requires some { 0 < part.a }
-        ensures reader { reader_of bytes.now self.new ≡ mq_refilled bytes.now 15 (reader_of bytes.now part) }
-        ensures held { IsHeld bytes.now self.new }
-        ensures reading { IsReading (reader_of bytes.now self.new) }
+        ensures registers { reader_of self.new ≡ mq_refilled bytes.now 15 (reader_of part) }
+        ensures wide { self.new.a % 65536 ≡ 0 }
+        ensures reading { IsReading bytes.now (reader_of self.new) }
     {
-        let shifts = part.a.leading_zeros() - 1;
-        let c = part.c << shifts & REGISTER;
-        if c % 0x1_0000_0000 == 0 {
+        let shifts = part.a.leading_zeros();
+        if shifts > part.ct {
             self.feed(part.a, part.c, shifts, bytes);
             return;
         }
-        self.a = part.a << shifts;
-        self.c = c;
+        let last = part.shifted(shifts);
+        self.a = last.a;
+        self.c = last.c;
+        self.ct = last.ct;
     }
 
-    /// A word whose top bit is 1 where the code lies in the part of the less probable symbol (Annex C.3.2), and else 0.
+    /// Whether the code lies in the lower part of the interval, whose width is in the upper half of
+    /// 32 bits.
     #[inline(always)]
-    fn reads_lps(self, qe: u64, bytes: &[u8]) -> u64
-        requires held { IsHeld bytes.now self }
-        requires wide { qe % 140737488355328 ≡ 0 }
-        requires most { qe ≤ self.a }
-        ensures { (result / 9223372036854775808 == 0) ≡ mq_reads_mps (reader_of bytes.now self) (qe / 140737488355328) }
+    fn is_low(self, qe: u32) -> bool
+        requires { qe % 65536 ≡ 0 }
+        ensures { result ≡ mq_is_low (reader_of self) (qe / 65536) }
     {
-        (self.a - qe).wrapping_sub(qe) ^ self.c.wrapping_sub(qe)
+        self.c < qe
+    }
+
+    /// Whether the code lies in the part of the more probable symbol (Annex C.3.2).
+    #[inline(always)]
+    fn reads_mps(self, qe: u32) -> bool
+        requires wide { self.a % 65536 ≡ 0 }
+        requires wide_qe { qe % 65536 ≡ 0 }
+        requires most { qe ≤ self.a }
+        ensures { result ≡ mq_reads_mps (reader_of self) (qe / 65536) }
+    {
+        self.is_low(qe) == (self.a - qe < qe)
     }
 
     /// The interval narrowed to the part in which the code lies (Annex C.3.2).
     #[inline(always)]
-    fn chosen(self, qe: u64, bytes: &[u8]) -> Registers
-        requires held { IsHeld bytes.now self }
-        requires wide { qe % 140737488355328 ≡ 0 }
-        requires some { 0 < qe }
-        requires most { qe < self.a }
-        ensures reader { reader_of bytes.now result ≡ mq_chosen (reader_of bytes.now self) (qe / 140737488355328) }
-        ensures held { IsHeld bytes.now result }
-        ensures some { 0 < result.a }
+    fn chosen(self, qe: u32) -> Registers
+        requires wide { self.a % 65536 ≡ 0 }
+        requires wide_qe { qe % 65536 ≡ 0 }
+        requires most { qe ≤ self.a }
+        ensures registers { reader_of result ≡ mq_chosen (reader_of self) (qe / 65536) }
+        ensures wide { result.a % 65536 ≡ 0 }
         ensures same { result ≡ record self { a = result.a; c = result.c } }
     {
-        let less = self.c.wrapping_sub(qe);
-        let is_low = less >> 63 == 1;
+        let is_low = self.is_low(qe);
+        let above = self.c.wrapping_sub(qe);
         Registers {
             a: either(is_low, qe, self.a - qe),
-            c: either(is_low, self.c, less),
-            stand: self.stand,
-            past: self.past,
-            ahead: self.ahead,
+            c: either(is_low, self.c, above),
+            ct: self.ct,
             place: self.place,
+            looked: self.looked,
         }
     }
 }
@@ -300,9 +197,9 @@ pub struct MqDecoder<'a> {
 impl<'a> Model for MqDecoder<'a> {
     ghost Value = { MqDecoding };
 
-    ghost view = { λ d. record { bytes = d.bytes.now; reader = reader_of d.bytes.now d.registers } };
+    ghost view = { λ d. record { bytes = d.bytes.now; reader = reader_of d.registers } };
 
-    ghost invariant = { λ d. IsHeld d.bytes.now d.registers × IsReading (reader_of d.bytes.now d.registers) };
+    ghost invariant = { λ d. (d.registers.a % 65536 ≡ 0) × IsReading d.bytes.now (reader_of d.registers) };
 }
 
 impl<'a> MqDecoder<'a> {
@@ -311,22 +208,16 @@ impl<'a> MqDecoder<'a> {
         ensures bytes { result.bytes ≡ bytes.now }
         ensures reader { result.reader ≡ mq_reader bytes.now }
     {
-        let first = byte_at(bytes, 0) as u64;
-        let byte = byte_in(bytes, 0);
-        let c = ((first << 47) + (byte.value << (47 - byte.width))) << 7 & REGISTER;
-        let stand = Stand {
-            ct: byte.width - 7,
-            place: byte.place,
-            looked: 2,
+        let first = Registers {
+            a: 0x8000_0000,
+            c: byte_at(bytes, 0) as u32 * 65536,
+            ct: 0,
+            place: 0,
+            looked: 1,
         };
-        let registers = Registers {
-            a: 1 << 62,
-            c: c + (1 << (53 - byte.width)),
-            stand,
-            past: 0,
-            ahead: byte.width - 7,
-            place: byte.place,
-        };
+        let mut registers = first.fed(bytes);
+        registers.c = registers.c << 7;
+        registers.ct -= 7;
         MqDecoder { bytes, registers }
     }
 
@@ -339,31 +230,19 @@ impl<'a> MqDecoder<'a> {
         ensures bytes { self.new.bytes ≡ self.old.bytes }
         ensures reader { self.new.reader ≡ mq_read self.old.bytes self.old.reader (mq_row_of contexts.old label).qe }
     {
-        self.top_bit(contexts, label) >> 63 == 1
-    }
-
-    /// As `bit`: the decision is the top bit of a word, whose other bits say nothing.
-    #[inline(always)]
-    pub fn top_bit(&mut self, contexts: &mut Contexts, label: u8) -> u64
-        requires { label < 19 }
-        ensures bit { (result / 9223372036854775808 == 1) ≡ mq_bit self.old.reader contexts.old label }
-        ensures contexts { contexts.new ≡ mq_after self.old.reader contexts.old label }
-        ensures bytes { self.new.bytes ≡ self.old.bytes }
-        ensures reader { self.new.reader ≡ mq_read self.old.bytes self.old.reader (mq_row_of contexts.old label).qe }
-    {
         let state = contexts.state(label);
-        let qe = width_of(state) << 31;
-        let lps = self.registers.reads_lps(qe, self.bytes);
-        let part = self.registers.chosen(qe, self.bytes);
-        contexts.adapt(label, state, part.a >> 31, lps >> 63);
+        let qe = width_of(state);
+        let is_mps = self.registers.reads_mps(qe);
+        let part = self.registers.chosen(qe);
+        contexts.adapt(label, state, part.a, is_mps);
         self.registers.refill(part, self.bytes);
-        lps ^ (state as u64) << 63
+        (state % 2 == 1) == is_mps
     }
 
     /// How many bytes of the segment were read or compared so far.
     pub fn looked(&self) -> usize
         ensures { result ≡ min self.now.reader.looked (length self.now.bytes) }
     {
-        self.registers.looked(self.bytes).min(self.bytes.len())
+        self.registers.looked.min(self.bytes.len())
     }
 }

@@ -1,8 +1,6 @@
-ghost use Rattle.std.specs.Prelude.{◌≡◌, ◌+◌, ◌-◌, ◌*◌, ◌/◌, ◌%◌, ◌^◌, ◌<◌, ◌≤◌, ◌==◌, ℕ, List, [], ◌∷◌, length, reverse, IfOk, OnOk};
-ghost use Rattle.jx_coder_specs.specs.MqTable.{mq_row_of};
-ghost use Rattle.jx_coder_specs.specs.MqWriting.{MqWriter, mq_writer, mq_byte_out, mq_renormalized, mq_part, mq_is_mps, mq_wrote, mq_after_bit, mq_last_number, mq_given_out, mq_segment};
+ghost use Rattle.std.specs.Prelude.{◌≡◌, ◌-◌, ◌*◌, ◌/◌, ◌%◌, ◌^◌, ◌<◌, ◌≤◌, ◌==◌, ℕ, List, [], ◌∷◌, length, reverse, IfOk, OnOk};
+ghost use Rattle.jx_coder_specs.specs.MqWriting.{MqWriter, mq_writer, mq_byte_out, mq_renormalized, mq_part, mq_wrote, mq_after_bit, mq_last_number, mq_given_out, mq_segment};
 ghost use Rattle.jx_mq.specs.Coding.{given, writer_of, IsCoding, IsCoder};
-ghost use Rattle.jx_mq.specs.Marking.{ct_under, c_under, marked_writer, IsMarked, HasMark};
 ghost use Rattle.jx_mq.specs.Shifting.{mq_moved_by, IsShort};
 
 use crate::choice::{by_bit, unless};
@@ -28,8 +26,9 @@ fn given_out(c: u32, newest: u8, older: &mut Vec<u8>) -> Result<(u32, u32, u8), 
     Ok((rest % 0x8_0000, 8, (rest >> 19) as u8))
 }
 
-/// The registers A (in the upper half of 32 bits), C and CT, and the newest byte B, while bytes are given out.
-/// They come and go as values. The older bytes stand in a list, with the byte 0 before the first.
+/// The registers A (in the upper half of 32 bits), C and CT, and the newest byte B. They come and go
+/// as values, so a caller can keep its own in the machine's. The older bytes stand in a list, with
+/// the byte 0 before the first.
 #[derive(Clone, Copy, Drop)]
 struct Registers {
     a: u32,
@@ -110,6 +109,74 @@ impl Registers {
         Ok(now.shifted(left))
     }
 
+    /// RENORME (Annex C.2.6) by so many shifts, after which A and C are those of a part of the
+    /// interval. They come as numbers, since a part that is lent would stand in memory at each
+    /// decision.
+    #[cold]
+    #[inline(never)]
+    fn give(&mut self, a: u32, c: u32, shifts: u32, older: &mut Vec<u8>) -> Result<(), NoMemory>
+        requires coding { IsCoding (writer_of (record self.old { a = a; c = c }) older.old.items) }
+        requires wide { a % 65536 ≡ 0 }
+        requires shifts { IsShort (a / 65536) shifts }
+        ensures registers { OnOk result (writer_of self.new older.new.items ≡ mq_renormalized 15 (writer_of (record self.old { a = a; c = c }) older.old.items)) }
+        ensures coder { OnOk result (IsCoder (writer_of self.new older.new.items)) }
+        ensures wide { OnOk result (self.new.a % 65536 ≡ 0) }
+    {
+        let part = Registers {
+            a,
+            c,
+            ct: self.ct,
+            newest: self.newest,
+        };
+        *self = part.given_by(shifts, older)?;
+        Ok(())
+    }
+
+    /// RENORME (Annex C.2.6) of a part of the interval, in place: as a value that comes back with a
+    /// result it would go through memory at each decision. Where A has bit 15 there are no shifts.
+    #[inline(always)]
+    fn renormalize(&mut self, part: Registers, older: &mut Vec<u8>) -> Result<(), NoMemory>
+        requires same { part ≡ record self.old { a = part.a; c = part.c } }
+        requires coding { IsCoding (writer_of part older.old.items) }
+        requires wide { part.a % 65536 ≡ 0 }
+        ensures registers { OnOk result (writer_of self.new older.new.items ≡ mq_renormalized 15 (writer_of part older.old.items)) }
+        ensures coder { OnOk result (IsCoder (writer_of self.new older.new.items)) }
+        ensures wide { OnOk result (self.new.a % 65536 ≡ 0) }
+    {
+        let shifts = part.a.leading_zeros();
+        if shifts >= part.ct {
+            return self.give(part.a, part.c, shifts, older);
+        }
+        let last = part.shifted(shifts);
+        self.a = last.a;
+        self.c = last.c;
+        self.ct = last.ct;
+        Ok(())
+    }
+
+    /// The interval narrowed to a symbol's part (Annex C.2.4 and C.2.5). Qe is in the upper half of
+    /// 32 bits, and `lps` is 0 for the more probable symbol and 1 for the other.
+    #[inline(always)]
+    fn narrowed(self, qe: u32, lps: u32) -> Registers
+        requires wide { self.a % 65536 ≡ 0 }
+        requires wide_qe { qe % 65536 ≡ 0 }
+        requires most { qe ≤ self.a }
+        requires bit { lps < 2 }
+        requires room { self.c < 268435456 }
+        ensures registers { (older : List ℕ) → writer_of result older ≡ mq_part (writer_of self older) (qe / 65536) (lps == 0) }
+        ensures wide { result.a % 65536 ≡ 0 }
+        ensures same { result ≡ record self { a = result.a; c = result.c } }
+    {
+        let rest = self.a - qe;
+        let low = lps ^ (rest < qe) as u32;
+        Registers {
+            a: by_bit(low, qe, rest),
+            c: self.c + unless(low, qe >> 16),
+            ct: self.ct,
+            newest: self.newest,
+        }
+    }
+
     /// SETBITS (Annex C.2.9).
     #[tactic(auto, using(crate::proofs::Renormals::filled))]
     fn set_bits(self) -> Registers
@@ -138,165 +205,19 @@ impl Registers {
     }
 }
 
-/// The registers between two decisions: A in the upper half of 32 bits, 65536 times C with a 1 above it, at bit
-/// 47 - CT, and the newest byte B. A byte is due once that 1 comes to bit 47, so a shift moves CT with C.
-#[derive(Clone, Copy, Drop)]
-struct Marked {
-    a: u64,
-    c: u64,
-    newest: u8,
-}
-
-impl Marked {
-    /// The registers of the standard with the 1 above C.
-    #[inline(always)]
-    fn over(registers: Registers) -> Marked
-        requires ct { registers.ct ≤ 12 }
-        requires room { registers.c * 2 ^ registers.ct < 268435456 }
-        ensures registers { (older : List ℕ) → marked_writer result older ≡ writer_of registers older }
-        ensures a { result.a ≡ registers.a }
-        ensures marked { IsMarked result.c registers.ct registers.c }
-    {
-        Marked {
-            a: registers.a as u64,
-            c: ((registers.c as u64) << 16) + (1u64 << (47 - registers.ct)),
-            newest: registers.newest,
-        }
-    }
-
-    /// The registers of the standard.
-    #[inline(always)]
-    fn opened(self) -> Registers
-        requires marked { HasMark self.c }
-        requires ct { ct_under self.c ≤ 12 }
-        requires a { self.a < 4294967296 }
-        requires room { c_under self.c < 268435456 }
-        ensures registers { (older : List ℕ) → writer_of result older ≡ marked_writer self older }
-        ensures a { result.a ≡ self.a }
-    {
-        let ct = self.c.leading_zeros() - 16;
-        let rest = self.c - (1u64 << (47 - ct));
-        Registers {
-            a: self.a as u32,
-            c: (rest >> 16) as u32,
-            ct,
-            newest: self.newest,
-        }
-    }
-
-    /// The interval narrowed to a symbol's part (Annex C.2.4 and C.2.5). Qe is in the upper half of
-    /// 32 bits, and the top bit of `word` is 0 for the more probable symbol and 1 for the other.
-    #[inline(always)]
-    fn narrowed(self, qe: u64, word: u64) -> Marked
-        requires wide { self.a % 65536 ≡ 0 }
-        requires wide_qe { qe % 65536 ≡ 0 }
-        requires most { qe ≤ self.a }
-        requires fits { self.a < 4294967296 }
-        requires marked { HasMark self.c }
-        requires room { (c_under self.c + qe / 65536) * 2 ^ ct_under self.c < 268435456 }
-        requires ct { ct_under self.c ≤ 12 }
-        ensures registers { (older : List ℕ) → marked_writer result older ≡ mq_part (marked_writer self older) (qe / 65536) (word / 9223372036854775808 == 0) }
-        ensures wide { result.a % 65536 ≡ 0 }
-        ensures fits { result.a ≤ self.a }
-        ensures marked { HasMark result.c }
-        ensures same { result ≡ record self { a = result.a; c = result.c } }
-    {
-        let rest = self.a - qe;
-        let low = (rest.wrapping_sub(qe) ^ word) >> 63;
-        Marked {
-            a: by_bit(low, qe, rest),
-            c: self.c + unless(low, qe),
-            newest: self.newest,
-        }
-    }
-
-    /// The part of a decision under a label, which is the top bit of a word, and the contexts after it.
-    #[inline(always)]
-    fn decided(self, contexts: &mut Contexts, label: u8, word: u64) -> Marked
-        requires label { label < 19 }
-        requires wide { self.a % 65536 ≡ 0 }
-        requires low { 2147483648 ≤ self.a }
-        requires fits { self.a < 4294967296 }
-        requires marked { HasMark self.c }
-        requires ct { ct_under self.c ≤ 12 }
-        requires room { (c_under self.c + self.a / 65536) * 2 ^ ct_under self.c ≤ 150994944 }
-        ensures contexts { (older : List ℕ) → contexts.new ≡ mq_after_bit (marked_writer self older) contexts.old label (word / 9223372036854775808 == 1) }
-        ensures registers { (older : List ℕ) → marked_writer result older ≡ mq_part (marked_writer self older) (mq_row_of contexts.old label).qe (mq_is_mps contexts.old label (word / 9223372036854775808 == 1)) }
-        ensures wide { result.a % 65536 ≡ 0 }
-        ensures fits { result.a < 4294967296 }
-        ensures marked { HasMark result.c }
-        ensures same { result ≡ record self { a = result.a; c = result.c } }
-    {
-        let state = contexts.state(label);
-        let turned = word ^ (state as u64) << 63;
-        let part = self.narrowed(width_of(state), turned);
-        contexts.adapt(label, state, part.a, turned >> 63);
-        part
-    }
-
-    /// RENORME (Annex C.2.6) by so many shifts, of which at least one gives out a byte, after which A and C are
-    /// those of a part of the interval. They come as numbers, since a part that is lent would stand in memory at
-    /// each decision.
-    #[cold]
-    #[inline(never)]
-    fn give(&mut self, a: u64, c: u64, shifts: u32, older: &mut Vec<u8>) -> Result<(), NoMemory>
-        requires coding { IsCoding (marked_writer (record self.old { a = a; c = c }) older.old.items) }
-        requires marked { HasMark c }
-        requires wide { a % 65536 ≡ 0 }
-        requires shifts { IsShort (a / 65536) shifts }
-        ensures registers { OnOk result (marked_writer self.new older.new.items ≡ mq_renormalized 15 (marked_writer (record self.old { a = a; c = c }) older.old.items)) }
-        ensures coder { OnOk result (IsCoder (marked_writer self.new older.new.items)) }
-        ensures marked { OnOk result (HasMark self.new.c) }
-        ensures wide { OnOk result (self.new.a % 65536 ≡ 0) }
-    {
-        let part = Marked {
-            a,
-            c,
-            newest: self.newest,
-        };
-        let last = part.opened().given_by(shifts, older)?;
-        *self = Marked::over(last);
-        Ok(())
-    }
-
-    /// RENORME (Annex C.2.6) of a part of the interval, in place: as a value that comes back with a
-    /// result it would go through memory at each decision. Where A has bit 15 there are no shifts.
-    #[inline(always)]
-    fn renormalize(&mut self, part: Marked, older: &mut Vec<u8>) -> Result<(), NoMemory>
-        requires same { part ≡ record self.old { a = part.a; c = part.c } }
-        requires coding { IsCoding (marked_writer part older.old.items) }
-        requires marked { HasMark part.c }
-        requires wide { part.a % 65536 ≡ 0 }
-        requires fits { part.a < 4294967296 }
-        ensures registers { OnOk result (marked_writer self.new older.new.items ≡ mq_renormalized 15 (marked_writer part older.old.items)) }
-        ensures coder { OnOk result (IsCoder (marked_writer self.new older.new.items)) }
-        ensures marked { OnOk result (HasMark self.new.c) }
-        ensures wide { OnOk result (self.new.a % 65536 ≡ 0) }
-    {
-        let shifts = (part.a as u32).leading_zeros();
-        let c = part.c << shifts;
-        if c >> 47 != 0 {
-            return self.give(part.a, part.c, shifts, older);
-        }
-        self.a = part.a << shifts;
-        self.c = c;
-        Ok(())
-    }
-}
-
 /// An encoder of one segment.
 #[derive(Drop)]
 pub struct MqEncoder {
-    registers: Marked,
+    registers: Registers,
     older: Vec<u8>,
 }
 
 impl Model for MqEncoder {
     ghost Value = { MqWriter };
 
-    ghost view = { λ e. marked_writer e.registers e.older.items };
+    ghost view = { λ e. writer_of e.registers e.older.items };
 
-    ghost invariant = { λ e. (e.registers.a % 65536 ≡ 0) × HasMark e.registers.c × IsCoder (marked_writer e.registers e.older.items) };
+    ghost invariant = { λ e. (e.registers.a % 65536 ≡ 0) × IsCoder (writer_of e.registers e.older.items) };
 }
 
 impl MqEncoder {
@@ -324,7 +245,7 @@ impl MqEncoder {
         ensures { result ≡ mq_writer }
     {
         MqEncoder {
-            registers: Marked::over(Registers::first()),
+            registers: Registers::first(),
             older,
         }
     }
@@ -332,27 +253,19 @@ impl MqEncoder {
     /// Codes a decision under a label, which is below 19. Where memory is refused the encoder has
     /// lost its decisions, and it and the contexts are given up.
     #[inline(always)]
-    #[tactic(auto, using(crate::proofs::Choices::bit_as_top))]
     pub fn bit(&mut self, contexts: &mut Contexts, label: u8, bit: bool) -> Result<(), NoMemory>
         requires { label < 19 }
         ensures contexts { OnOk result (contexts.new ≡ mq_after_bit self.old contexts.old label bit) }
         ensures registers { OnOk result (self.new ≡ mq_wrote self.old contexts.old label bit) }
     {
-        self.top_bit(contexts, label, (bit as u64) << 63)
-    }
-
-    /// As `bit`, for the decision in the top bit of a word. Its other bits are of no account.
-    #[inline(always)]
-    pub fn top_bit(&mut self, contexts: &mut Contexts, label: u8, word: u64) -> Result<(), NoMemory>
-        requires { label < 19 }
-        ensures contexts { OnOk result (contexts.new ≡ mq_after_bit self.old contexts.old label (word / 9223372036854775808 == 1)) }
-        ensures registers { OnOk result (self.new ≡ mq_wrote self.old contexts.old label (word / 9223372036854775808 == 1)) }
-    {
-        let part = self.registers.decided(contexts, label, word);
+        let state = contexts.state(label);
+        let lps = (state % 2) as u32 ^ bit as u32;
+        let part = self.registers.narrowed(width_of(state), lps);
+        contexts.adapt(label, state, part.a, lps == 0);
         match self.registers.renormalize(part, &mut self.older) {
             Ok(()) => Ok(()),
             Err(refused) => {
-                self.registers = Marked::over(Registers::first());
+                self.registers = Registers::first();
                 self.older.clear();
                 Err(refused)
             }
@@ -371,7 +284,7 @@ impl MqEncoder {
     pub fn places(&self) -> u8
         ensures { result ≡ 27 - self.now.ct }
     {
-        (27 - self.registers.opened().ct) as u8
+        (27 - self.registers.ct) as u8
     }
 
     /// The segment of all decisions (Annex C.2.9): its last byte is never FF.
@@ -382,7 +295,7 @@ impl MqEncoder {
             registers,
             mut older,
         } = self;
-        let last = registers.opened().set_bits();
+        let last = registers.set_bits();
         let once = last.give_out(&mut older)?;
         let twice = once.give_out(&mut older)?;
         if twice.newest != 0xFF {

@@ -6,7 +6,6 @@ mod contexts;
 mod decoder;
 mod encoder;
 pub mod laws;
-mod stand;
 mod table;
 
 pub use contexts::Contexts;

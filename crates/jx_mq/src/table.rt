@@ -1,4 +1,4 @@
-ghost use Rattle.std.specs.Prelude.{◌≡◌, ◌<◌, ◌≤◌, ◌/◌, ◌%◌, ◌==◌};
+ghost use Rattle.std.specs.Prelude.{◌≡◌, ◌<◌, ◌≤◌, ◌/◌, ◌%◌};
 ghost use Rattle.jx_coder_specs.specs.MqTable.{mq_row_at};
 ghost use Rattle.jx_mq.specs.States.{row_in, next_state};
 
@@ -140,25 +140,23 @@ static NEXT: [u8; 752] = [
 
 /// 65536 times Qe of a state below 94.
 #[inline(always)]
-pub fn width_of(state: u8) -> u64
+pub fn width_of(state: u8) -> u32
     requires { state < 94 }
     ensures qe { result / 65536 ≡ (mq_row_at (row_in state)).qe }
     ensures wide { result % 65536 ≡ 0 }
     ensures some { 65536 ≤ result }
     ensures most { result ≤ 1442906112 }
 {
-    QE[state as usize] as u64
+    QE[state as usize]
 }
 
-/// The state after a decision under a state below 94, by whether that is the less probable symbol (1), or
-/// isn't (0). A is the part's width before its shifts, in the upper half of 32 bits.
+/// The state after a decision under a state below 94 that is the more probable symbol, or isn't. A
+/// is the part's width before its shifts, in the upper half of 32 bits.
 #[inline(always)]
-pub fn state_after(state: u8, a: u64, lps: u64) -> u8
-    requires state { state < 94 }
-    requires fits { a < 4294967296 }
-    requires bit { lps < 2 }
-    ensures state { result ≡ next_state state (a / 65536) (lps == 0) }
+pub fn state_after(state: u8, a: u32, is_mps: bool) -> u8
+    requires { state < 94 }
+    ensures state { result ≡ next_state state (a / 65536) is_mps }
     ensures known { result < 94 }
 {
-    NEXT[state as usize * 8 + (a >> 30) as usize * 2 + lps as usize]
+    NEXT[state as usize * 8 + (a >> 30) as usize * 2 + !is_mps as usize]
 }

@@ -1,58 +1,39 @@
-use Rattle.std.proofs.Common.{◌≡◌, ◌*◌, ◌^◌, ℕ, ap, sym, subst, ◌≤◌, ◌∙◌, arith}
-use Rattle.jx_coder_specs.specs.MqReading.{MqReader, mq_byte_in, mq_refilled}
-use Rattle.jx_mq.specs.Ahead.{mq_shifts}
+use Rattle.std.proofs.Common.{◌≡◌, ap, ◌∙◌, arith}
+use Rattle.jx_coder_specs.specs.MqReading.{MqReader, mq_byte_in}
 use Rattle.jx_mq.specs.Decoding.{reader_of}
-use Rattle.jx_mq.proofs.Refills.{refilled_enough, byte_in_a}
-use Rattle.jx_mq.proofs.Shifts.{short_some, half_of, short_rest}
-use Rattle.jx_mq.proofs.Holding.{due_ct}
-use Rattle.jx_mq.proofs.Taking.{shifts_refilled, shifts_a, leads_fed}
+use Rattle.jx_mq.specs.Shifting.{mq_shifted_by}
+use Rattle.jx_mq.proofs.Refills.{refilling_begins, byte_in_a}
+use Rattle.jx_mq.proofs.Shifts.{short_some, half_of, short_rest, refilling_by, refilled_last}
 use Rattle.jx_mq.proofs.decoder.Registers.fed_by.Goals as goal
 
 pub loop-now-init : goal.loop-now-init
 loop-now-init c =
-    let begun : reader_of c.args.bytes.now c.filled-begun.result ≡ reader_of c.args.bytes.now c.args.self = c.filled-begun.ensures.reader ∙ c.settled.ensures.reader in
-    let a = c.filled-begun.ensures.a ∙ c.settled.ensures.a in
-    let some = (short_some _ _ c.requires.shifts).0 in
+    let some = short_some _ _ c.requires.shifts in
     record {
-      leads = λ n enough.
-          ap (λ (r : MqReader). mq_refilled c.args.bytes.now n r) begun ∙
-          refilled_enough c.args.bytes.now n 15 (reader_of c.args.bytes.now c.args.self) (subst (λ (r : MqReader). 32768 ≤ r.a * 2 ^ n) begun enough) (omega arith);
-      held = c.filled-begun.ensures.held;
-      settled = c.filled-begun.ensures.settled;
-      short = rw a c.requires.shifts;
+      refilling = refilling_begins _ _ c.requires.within some.0 some.1;
+      short = c.requires.shifts;
+      wide = c.requires.wide;
     }
 
-pub shifted-moved-requires-clause-room : goal.shifted-moved-requires-clause-room
-shifted-moved-requires-clause-room c =
+pub shifted-requires-clause-room : goal.shifted-requires-clause-room
+shifted-requires-clause-room c =
     let half = half_of _ _ _ c.loop-now-test.true c.loop-now.invariant.short in
     omega (arith, half)
 
 pub loop-now-preserved : goal.loop-now-preserved
 loop-now-preserved c =
-    let by : ℕ = c.loop-now.now.ahead in
-    let r : MqReader = reader_of c.args.bytes.now c.loop-now.now in
-    let i = c.loop-now.invariant in
-    let due : reader_of c.args.bytes.now c.stood-due.result ≡ mq_shifts c.args.bytes.now by r = c.stood-due.ensures.reader ∙ c.shifted-moved.ensures.reader in
-    let now : reader_of c.args.bytes.now c.filled-now.result ≡ mq_byte_in c.args.bytes.now (mq_shifts c.args.bytes.now by r) =
-    c.filled-now.ensures.reader ∙ c.fed-fed.ensures.reader ∙ ap (λ (x : MqReader). mq_byte_in c.args.bytes.now x) due in
-    let none : (mq_shifts c.args.bytes.now by r).ct ≡ 0 = ap (λ (x : MqReader). x.ct) (sym due) ∙ due_ct c.args.bytes.now c.stood-due.result c.stood-due.ensures.held (let e = c.shifted-moved.ensures.ahead in let f = i.settled in let g = c.stood-due.ensures.c in rw g (omega arith)) in
-    let a : (reader_of c.args.bytes.now c.filled-now.result).a ≡ r.a * 2 ^ by = ap (λ (x : MqReader). x.a) now ∙ byte_in_a c.args.bytes.now (mq_shifts c.args.bytes.now by r) ∙ shifts_a c.args.bytes.now by r in
+    let now : reader_of c.fed-now.result ≡ mq_byte_in c.args.bytes.now (mq_shifted_by c.loop-now.now.ct (reader_of c.loop-now.now)) =
+    c.fed-now.ensures.registers ∙ ap (λ (r : MqReader). mq_byte_in c.args.bytes.now r) c.shifted.ensures.registers in
+    let a = ap (λ (r : MqReader). r.a) now ∙ byte_in_a c.args.bytes.now (mq_shifted_by c.loop-now.now.ct (reader_of c.loop-now.now)) in
+    let within = rw now at c.fed-now.ensures.within in
+    let wide = c.shifted.ensures.wide in
+    let kept = c.fed-now.ensures.a in
     record {
-      leads = λ n enough.
-          ap (λ (x : MqReader). mq_refilled c.args.bytes.now n x) now ∙
-          leads_fed c.args.bytes.now (reader_of c.args.bytes.now c.args.self) r by c.loop-now.left n c.loop-now-test.true i.short none i.leads (subst (λ (x : ℕ). 32768 ≤ x * 2 ^ n) a enough);
-      held = c.filled-now.ensures.held;
-      settled = c.filled-now.ensures.settled;
-      short = rw a (short_rest _ _ _ (let more = c.loop-now-test.true in omega arith) i.short);
+      refilling = rw now (refilling_by _ _ _ _ c.shifted.ensures.fits c.loop-now-test.true c.loop-now.invariant.short within c.loop-now.invariant.refilling);
+      short = rw a (short_rest _ _ _ (omega arith) c.loop-now.invariant.short);
+      wide = omega arith;
     }
 
-pub returns-clause-reader : goal.returns-clause-reader
-returns-clause-reader c =
-    c.shifted.ensures.reader ∙ shifts_refilled c.args.bytes.now c.loop-now.left (reader_of c.args.bytes.now c.loop-now.now) c.loop-now.invariant.short ∙
-    c.loop-now.invariant.leads c.loop-now.left c.loop-now.invariant.short.enough
-
-pub shifted-requires-clause-room : goal.shifted-requires-clause-room
-shifted-requires-clause-room c = c.loop-now.invariant.short.few
-
-pub returns-clause-reading : goal.returns-clause-reading
-returns-clause-reading c = record { low = rw c.shifted.ensures.a c.loop-now.invariant.short.enough; high = rw c.shifted.ensures.a c.loop-now.invariant.short.few }
+pub returns-clause-registers : goal.returns-clause-registers
+returns-clause-registers c =
+    rw c.shifted-2.ensures.registers (refilled_last _ _ _ _ c.shifted-2.ensures.fits c.loop-now-test.false c.loop-now.invariant.short c.loop-now.invariant.refilling)

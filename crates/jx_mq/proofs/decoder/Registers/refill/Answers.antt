@@ -1,19 +1,30 @@
-use Rattle.std.proofs.Common.{refl}
-use Rattle.jx_mq.proofs.Holding.{short_high}
-use Rattle.jx_mq.proofs.Starting.{refilled_is}
+use Rattle.std.proofs.Common.{◌∙◌, ap, arith}
+use Rattle.jx_mq.specs.declared.decoder.Registers.{Registers}
+use Rattle.jx_mq.proofs.Refills.{refilling_begins}
+use Rattle.jx_mq.proofs.Shifts.{short_of, short_some, refilled_last}
 use Rattle.jx_mq.proofs.decoder.Registers.refill.Goals as goal
 
-pub overflow_sub-shifts : goal.overflow_sub-shifts
-overflow_sub-shifts c = let h = c.requires.held in (short_high c.args.part.a h.wide c.requires.some h.room).0
-
 pub feed-requires-clause-shifts : goal.feed-requires-clause-shifts
-feed-requires-clause-shifts c = let h = c.requires.held in (short_high c.args.part.a h.wide c.requires.some h.room).1
+feed-requires-clause-shifts c = short_of c.args.part.a c.requires.wide c.requires.some (omega arith)
 
-pub returns-clause-reader : goal.returns-clause-reader
-returns-clause-reader c = (refilled_is c.args.bytes.now c.args.self.now c.args.part _ _ _ c.requires.same c.requires.held c.requires.some refl refl refl c.if-c-eq0.false).reader
+pub shifted-last-requires-clause-room : goal.shifted-last-requires-clause-room
+shifted-last-requires-clause-room c = (short_of c.args.part.a c.requires.wide c.requires.some (omega arith)).few
 
-pub returns-clause-held : goal.returns-clause-held
-returns-clause-held c = (refilled_is c.args.bytes.now c.args.self.now c.args.part _ _ _ c.requires.same c.requires.held c.requires.some refl refl refl c.if-c-eq0.false).held
+pub returns-clause-registers : goal.returns-clause-registers
+returns-clause-registers c =
+    let short = short_of c.args.part.a c.requires.wide c.requires.some (omega arith) in
+    let some = short_some _ _ short in
+    rw (← c.shifted-last.ensures.place ∙ ap (λ (r : Registers). r.place) c.requires.same, ← c.shifted-last.ensures.looked ∙ ap (λ (r : Registers). r.looked) c.requires.same, c.shifted-last.ensures.registers)
+    (refilled_last _ _ _ _ c.shifted-last.ensures.fits c.if-shifts-part.false short (refilling_begins _ _ c.requires.within some.0 some.1))
 
 pub returns-clause-reading : goal.returns-clause-reading
-returns-clause-reading c = (refilled_is c.args.bytes.now c.args.self.now c.args.part _ _ _ c.requires.same c.requires.held c.requires.some refl refl refl c.if-c-eq0.false).reading
+returns-clause-reading c =
+    let short = short_of c.args.part.a c.requires.wide c.requires.some (omega arith) in
+    let within = c.requires.within in
+    let ct = within.ct in
+    rw (← c.shifted-last.ensures.place ∙ ap (λ (r : Registers). r.place) c.requires.same, ← c.shifted-last.ensures.looked ∙ ap (λ (r : Registers). r.looked) c.requires.same, c.shifted-last.ensures.registers)
+    (record {
+      within = record { place = within.place; looked = within.looked; ct = omega arith };
+      low = short.enough;
+      high = short.few;
+    })

@@ -1,12 +1,11 @@
 use Rattle.std.proofs.Common.{◌≡◌, ◌≢◌, ℕ, List, [], ◌∷◌, ◌++◌, drop, Vec, Global, refl, ap, sym, ◌∙◌}
-use Rattle.jx_coder_specs.specs.MqWriting.{MqWriter, mq_last_number}
 use Rattle.jx_mq.proofs.Lengths.{segment_whole, segment_trimmed}
 use Rattle.jx_mq.proofs.encoder.MqEncoder.flush.Goals as goal
 use Rattle.jx_mq.proofs.encoder.MqEncoder.flush.Goals.{then-twice+in_ok-push, else-twice}
 
 pub returns : goal.returns
 returns c =
-    let last = c.set_bits-last.ensures c.self.inside.older.items ∙ ap (λ (w : MqWriter). record w { c = mq_last_number w }) (c.opened.ensures.registers c.self.inside.older.items) in
+    let last = c.set_bits-last.ensures c.self.inside.older.items in
     let once = c.in_ok-once.ensures in
     let twice = c.in_ok-twice.ensures in
     rw (← c.self.view_is) (elim c.if-twice.branch [
