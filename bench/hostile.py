@@ -8,7 +8,7 @@ bits or bytes that are changed, put in or left out, a segment or a tile-part tha
 set to one of its ends, or the front of one file before the back of another; one file in twenty has none. COUNT is 1000 where it isn't said,
 JOBS 1, SEED 1. The same SEED and folders give the same files and options, whatever JOBS.
 
-Of each run is asked: that it ends with a status of docs/RULES.md, and within a minute; that the line on standard output is the status's, and
+Of each run is asked: that it ends with a status of docs/user/statuses.md, and within a minute; that the line on standard output is the status's, and
 the text on standard error says the same numbers; that after a refusal OUT is as before, absent or an older file, and nothing stands beside
 it; that a file without damage violates nothing; and that a file which was written is read again with as many code-blocks. What fails is
 printed, its input is kept in the folder KEPT, and the end status is 1. Then come how often each status and rule came, and the slowest ten.
