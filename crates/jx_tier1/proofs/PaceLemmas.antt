@@ -28,7 +28,7 @@ pub record IsAfter (k : Plane) (g v : Cells) : Type 0 where
   pub width : v.width ≡ g.width
   pub height : v.height ≡ g.height
 
-place_after : {S : Type 0} (ask : S → Question → Bool × S) (pass : ℕ) (k : Plane) (g : Cells) (x y : ℕ) (s : S) → IsNow k g → IsIn g x y
+pub place_after : {S : Type 0} (ask : S → Question → Bool × S) (pass : ℕ) (k : Plane) (g : Cells) (x y : ℕ) (s : S) → IsNow k g → IsIn g x y
     → IsAfter k g (told ask (pass_at pass k g x y) s).0
 place_after ask pass k g x y s w i =
     let t : Asking Cells = pass_at pass k g x y in

@@ -13,3 +13,8 @@ pub mod Sixes
 pub mod Turns
 pub mod Walking
 pub mod Windows
+pub mod Blocks
+pub mod Contexts
+pub mod Places
+pub mod Sights
+pub mod WordScan

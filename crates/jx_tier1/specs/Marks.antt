@@ -28,3 +28,7 @@ wide_of g = g.width + 2
 
 abbrev pub stripes_of : Cells → ℕ
 stripes_of g = (g.height + 3) / 4
+
+-- 1 where a coefficient below 0 stands, else 0
+unfoldable pub minus : Cells → ℕ → ℕ → ℕ
+minus g column row = if is_outside g column row then 0 else one_if (coef_at g (column - 1) (row - 1)).negative

@@ -13,9 +13,10 @@ ghost use Rattle.jx_tier1.specs.Turns.{AreTurns};
 ghost use Rattle.jx_tier1.specs.Walking.{Ends, IsNow};
 
 use crate::half::Half;
-use crate::marks::Marks;
+use crate::block::BlockState;
+use crate::contexts::Tables;
 use crate::questions::plane_for;
-use crate::walk_passes::walk_pass;
+use crate::passes::walk_pass;
 use jx_base::{Band, NoMemory, Style};
 use jx_tier1_specs::{Question, Source};
 use std::marker::Model;
@@ -65,9 +66,8 @@ impl<'a> Comparer<'a> {
     /// A pass's own decisions, of both.
     fn bits(
         &mut self,
-        marks: &mut Marks,
-        labels: &[u8],
-        turns: &[u8],
+        marks: &mut BlockState,
+        tables: &Tables,
         band: Band,
         style: Style,
         planes: u8,
@@ -75,8 +75,6 @@ impl<'a> Comparer<'a> {
     ) -> Result<(), NoMemory>
         requires scan { IsScan (plane_of band (is_causal style.bits) planes pass) }
         requires few { pass ≤ 220 }
-        requires labels { AreLabels band labels.now }
-        requires turns { AreTurns turns.now }
         requires wide { marks.old.width ≤ 1024 }
         requires high { marks.old.height ≤ 1024 }
         ensures size { IsOfSize marks.old marks.new }
@@ -84,7 +82,7 @@ impl<'a> Comparer<'a> {
             → OnOk result (Ends planes (told both_answer (scanned pass (plane_of band (is_causal style.bits) planes pass) (g.width * g.height) 0 g) self.old) marks.new self.new) }
     {
         let plane = plane_for(band, style, planes, pass);
-        walk_pass(self, marks, labels, turns, plane, pass)?;
+        walk_pass(self, marks, tables, plane, pass)?;
         Ok(())
     }
 
@@ -100,17 +98,14 @@ impl<'a> Comparer<'a> {
     /// The next pass of the block, in the styles of both, which agree on causal contexts.
     pub fn pass(
         &mut self,
-        marks: &mut Marks,
-        labels: &[u8],
-        turns: &[u8],
+        marks: &mut BlockState,
+        tables: &Tables,
         band: Band,
         one: Style,
         two: Style,
         planes: u8,
         pass: u16,
     ) -> Result<(), NoMemory>
-        requires labels { AreLabels band labels.now }
-        requires turns { AreTurns turns.now }
         requires scan { IsScan (plane_of band (is_causal one.bits) planes pass) }
         requires few { pass ≤ 220 }
         requires causal { is_causal two.bits ≡ is_causal one.bits }
@@ -121,7 +116,7 @@ impl<'a> Comparer<'a> {
             → OnOk result (AreBeside (coding_of band one.bits planes) (coding_of band two.bits planes) pass a b marks.new self.new) }
     {
         self.begin(one, two, pass);
-        self.bits(marks, labels, turns, band, one, planes, pass)?;
+        self.bits(marks, tables, band, one, planes, pass)?;
         self.end(one, two, pass)?;
         Ok(())
     }

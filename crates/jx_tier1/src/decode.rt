@@ -11,10 +11,9 @@ ghost use Rattle.jx_tier1_specs.specs.Short.{AreShort};
 
 use crate::FlagGrid;
 use crate::decoder::Decoder;
-use crate::labels::labels_of;
-use crate::marks::Marks;
+use crate::contexts::Tables;
+use crate::block::BlockState;
 use crate::noter::Noter;
-use crate::turns::turns_of;
 use jx_base::{Band, NoMemory};
 use jx_mq::Contexts;
 use jx_tier1_specs::{BadSymbol, Coded, Plane, Reader};
@@ -89,13 +88,10 @@ fn end(decoder: Decoder) -> FlagDecoded
 /// Decodes the passes of a block.
 fn run<'a>(
     decoder: &mut Decoder<'a>,
-    marks: &mut Marks,
-    labels: &[u8],
-    turns: &[u8],
+    marks: &mut BlockState,
+    tables: &Tables,
     coded: &Coded,
 ) -> Result<(), NoMemory>
-    requires labels { AreLabels coded.now.band labels.now }
-    requires turns { AreTurns turns.now }
     requires some { 1 ≤ coded.now.planes }
     requires planes { coded.now.planes ≤ 74 }
     requires passes { coded.now.passes ≤ 3 * coded.now.planes - 2 }
@@ -111,8 +107,7 @@ fn run<'a>(
     for pass in 0..coded.passes {
         decoder.pass(
             marks,
-            labels,
-            turns,
+            tables,
             coded.band,
             coded.style,
             coded.planes,
@@ -141,10 +136,9 @@ fn run_block<'a>(
         read_from (coding_of coded.now.band coded.now.style.bits coded.now.planes) coded.now.passes 0 decoder.old) }
     ensures within { OnOk result (AreWithin coded.now.planes coded.now.planes decoder.new.cells) }
 {
-    let labels = labels_of(alloc, coded.band)?;
-    let turns = turns_of(alloc)?;
-    let mut marks = Marks::new(alloc, width, height)?;
-    run(decoder, &mut marks, &labels, &turns, coded)
+    let tables = Tables::new(alloc, coded.band)?;
+    let mut marks = BlockState::new(alloc, width, height)?;
+    run(decoder, &mut marks, &tables, coded)
 }
 
 /// The coefficients of a block of at most 1,024 by 1,024 places, from its coded passes (T.800, Annex

@@ -12,10 +12,11 @@ ghost use Rattle.jx_tier1.specs.Walking.{IsNow};
 ghost use Rattle.jx_tier1_specs.specs.Short.{AreShort, with_bits};
 ghost use Rattle.jx_base.specs.Passes.{is_causal, has_symbols};
 
-use crate::marks::Marks;
+use crate::block::BlockState;
+use crate::contexts::Tables;
 use crate::noter::Noter;
 use crate::questions::plane_for;
-use crate::walk_passes::walk_pass;
+use crate::passes::walk_pass;
 use jx_base::{Band, NoMemory, Style, ends_segment, is_raw};
 use jx_tier1_specs::ask_symbol;
 use std::marker::Model;
@@ -113,16 +114,13 @@ impl<'a> Decoder<'a> {
     /// A pass's own decisions.
     fn bits(
         &mut self,
-        marks: &mut Marks,
-        labels: &[u8],
-        turns: &[u8],
+        marks: &mut BlockState,
+        tables: &Tables,
         band: Band,
         style: Style,
         planes: u8,
         pass: u16,
     ) -> Result<(), NoMemory>
-        requires labels { AreLabels band labels.now }
-        requires turns { AreTurns turns.now }
         requires scan { IsScan (plane_of band (is_causal style.bits) planes pass) }
         requires few { pass ≤ 220 }
         requires wide { marks.old.width ≤ 1024 }
@@ -137,23 +135,20 @@ impl<'a> Decoder<'a> {
     {
         let plane = plane_for(band, style, planes, pass);
         self.noter.begin(plane, style);
-        walk_pass(&mut self.noter, marks, labels, turns, plane, pass)?;
+        walk_pass(&mut self.noter, marks, tables, plane, pass)?;
         Ok(())
     }
 
     /// A pass within its segment.
     fn pass_within(
         &mut self,
-        marks: &mut Marks,
-        labels: &[u8],
-        turns: &[u8],
+        marks: &mut BlockState,
+        tables: &Tables,
         band: Band,
         style: Style,
         planes: u8,
         pass: u16,
     ) -> Result<(), NoMemory>
-        requires labels { AreLabels band labels.now }
-        requires turns { AreTurns turns.now }
         requires scan { IsScan (plane_of band (is_causal style.bits) planes pass) }
         requires few { pass ≤ 220 }
         requires wide { marks.old.width ≤ 1024 }
@@ -166,7 +161,7 @@ impl<'a> Decoder<'a> {
         ensures shows { OnOk result (Shows planes self.new.cells marks.new) }
         ensures within { OnOk result (AreWithin planes ((pass + 2) / 3 + 1) self.new.cells) }
     {
-        self.bits(marks, labels, turns, band, style, planes, pass)?;
+        self.bits(marks, tables, band, style, planes, pass)?;
         let right = self.symbol(style, pass)?;
         self.note(pass, right)
     }
@@ -174,16 +169,13 @@ impl<'a> Decoder<'a> {
     /// The next pass of the block, whose coefficients the marks show.
     pub fn pass(
         &mut self,
-        marks: &mut Marks,
-        labels: &[u8],
-        turns: &[u8],
+        marks: &mut BlockState,
+        tables: &Tables,
         band: Band,
         style: Style,
         planes: u8,
         pass: u16,
     ) -> Result<(), NoMemory>
-        requires labels { AreLabels band labels.now }
-        requires turns { AreTurns turns.now }
         requires scan { IsScan (plane_of band (is_causal style.bits) planes pass) }
         requires few { pass ≤ 220 }
         requires wide { marks.old.width ≤ 1024 }
@@ -199,6 +191,6 @@ impl<'a> Decoder<'a> {
         ensures rest { OnOk result (AreShort self.new.rest) }
     {
         self.open(style, pass);
-        self.pass_within(marks, labels, turns, band, style, planes, pass)
+        self.pass_within(marks, tables, band, style, planes, pass)
     }
 }

@@ -15,9 +15,8 @@ ghost use Rattle.jx_tier1_specs.specs.Encoding.{Encoding};
 
 use crate::FlagGrid;
 use crate::encoder::Encoder;
-use crate::labels::labels_of;
-use crate::marks::Marks;
-use crate::turns::turns_of;
+use crate::contexts::Tables;
+use crate::block::BlockState;
 use crate::writer::Writer;
 use jx_base::{Band, NoMemory, Style, is_raw};
 use std::alloc::Global;
@@ -46,17 +45,14 @@ fn end(encoder: Encoder) -> Vec<Vec<u8>>
 /// Codes the passes of a block.
 fn run<'a>(
     encoder: &mut Encoder<'a>,
-    marks: &mut Marks,
+    marks: &mut BlockState,
     alloc: Global,
-    labels: &[u8],
-    turns: &[u8],
+    tables: &Tables,
     band: Band,
     style: Style,
     planes: u8,
     passes: u16,
 ) -> Result<(), NoMemory>
-    requires labels { AreLabels band labels.now }
-    requires turns { AreTurns turns.now }
     requires some { 1 ≤ planes }
     requires planes { planes ≤ 74 }
     requires passes { passes ≤ 3 * planes - 2 }
@@ -71,8 +67,7 @@ fn run<'a>(
         encoder.pass(
             alloc,
             marks,
-            labels,
-            turns,
+            tables,
             band,
             style,
             planes,
@@ -103,11 +98,10 @@ fn run_block<'a>(
     ensures { OnOk result (encoder.new.done ≡ encoder.old.done ++ finished_from style.bits 0 encoder.old.writing
         (needs_from (coding_of band style.bits planes) encoder.old.writing.target passes 0 (zeros width height))) }
 {
-    let labels = labels_of(alloc, band)?;
-    let turns = turns_of(alloc)?;
-    let mut marks = Marks::new(alloc, width, height)?;
+    let tables = Tables::new(alloc, band)?;
+    let mut marks = BlockState::new(alloc, width, height)?;
     run(
-        encoder, &mut marks, alloc, &labels, &turns, band, style, planes, passes,
+        encoder, &mut marks, alloc, &tables, band, style, planes, passes,
     )
 }
 

@@ -14,9 +14,10 @@ ghost use Rattle.jx_tier1.specs.Walking.{Ends, IsNow};
 ghost use Rattle.jx_tier1_specs.specs.Writing.{Writing, fresh_writing, segment_by, write_answer};
 ghost use Rattle.jx_tier1_specs.specs.Encoding.{Encoding, renewed_writing, after_symbol, closed, after_step};
 
-use crate::marks::Marks;
+use crate::block::BlockState;
+use crate::contexts::Tables;
 use crate::questions::plane_for;
-use crate::walk_passes::walk_pass;
+use crate::passes::walk_pass;
 use crate::writer::Writer;
 use jx_base::{Band, NoMemory, Style, ends_segment, is_raw};
 use jx_tier1_specs::ask_symbol;
@@ -45,16 +46,13 @@ impl<'a> Encoder<'a> {
     /// A pass's own decisions.
     fn bits(
         &mut self,
-        marks: &mut Marks,
-        labels: &[u8],
-        turns: &[u8],
+        marks: &mut BlockState,
+        tables: &Tables,
         band: Band,
         style: Style,
         planes: u8,
         pass: u16,
     ) -> Result<(), NoMemory>
-        requires labels { AreLabels band labels.now }
-        requires turns { AreTurns turns.now }
         requires scan { IsScan (plane_of band (is_causal style.bits) planes pass) }
         requires few { pass ≤ 220 }
         requires wide { marks.old.width ≤ 1024 }
@@ -67,7 +65,7 @@ impl<'a> Encoder<'a> {
     {
         self.writer.begin(style);
         let plane = plane_for(band, style, planes, pass);
-        walk_pass(&mut self.writer, marks, labels, turns, plane, pass)?;
+        walk_pass(&mut self.writer, marks, tables, plane, pass)?;
         Ok(())
     }
 
@@ -108,17 +106,14 @@ impl<'a> Encoder<'a> {
     pub fn pass(
         &mut self,
         alloc: Global,
-        marks: &mut Marks,
-        labels: &[u8],
-        turns: &[u8],
+        marks: &mut BlockState,
+        tables: &Tables,
         band: Band,
         style: Style,
         planes: u8,
         pass: u16,
         last: bool,
     ) -> Result<(), NoMemory>
-        requires labels { AreLabels band labels.now }
-        requires turns { AreTurns turns.now }
         requires scan { IsScan (plane_of band (is_causal style.bits) planes pass) }
         requires few { pass ≤ 220 }
         requires wide { marks.old.width ≤ 1024 }
@@ -128,7 +123,7 @@ impl<'a> Encoder<'a> {
         ensures walk { (g : Cells) → Shows planes g marks.old → IsNow (plane_of band (is_causal style.bits) planes pass) g
             → OnOk result (Comes planes (after_step (coding_of band style.bits planes) last pass (coded_in g self.old)) marks.new self.new) }
     {
-        self.bits(marks, labels, turns, band, style, planes, pass)?;
+        self.bits(marks, tables, band, style, planes, pass)?;
         self.symbol(style, pass)?;
         self.finish(alloc, style, pass, last)?;
         Ok(())

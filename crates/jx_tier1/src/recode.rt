@@ -13,11 +13,10 @@ ghost use Rattle.jx_tier1.specs.Turns.{AreTurns};
 ghost use Rattle.jx_tier1_specs.specs.Short.{AreShort};
 
 use crate::copier::Copier;
-use crate::labels::labels_of;
-use crate::marks::Marks;
+use crate::contexts::Tables;
+use crate::block::BlockState;
 use crate::pen::Pen;
 use crate::recoder::Recoder;
-use crate::turns::turns_of;
 use jx_base::{NoMemory, Style, is_raw};
 use jx_mq::Contexts;
 use jx_tier1_specs::laws::ends_of_passes_are_told;
@@ -100,15 +99,12 @@ fn end(recoder: Recoder) -> FlagRecoded
 /// Decodes the passes of a block and codes them.
 fn run<'a>(
     recoder: &mut Recoder<'a>,
-    marks: &mut Marks,
+    marks: &mut BlockState,
     alloc: Global,
-    labels: &[u8],
-    turns: &[u8],
+    tables: &Tables,
     coded: &Coded,
     style: Style,
 ) -> Result<(), NoMemory>
-    requires labels { AreLabels coded.now.band labels.now }
-    requires turns { AreTurns turns.now }
     requires some { 1 ≤ coded.now.planes }
     requires planes { coded.now.planes ≤ 74 }
     requires passes { coded.now.passes ≤ 3 * coded.now.planes - 2 }
@@ -130,8 +126,7 @@ fn run<'a>(
         recoder.pass(
             alloc,
             marks,
-            labels,
-            turns,
+            tables,
             coded.band,
             coded.style,
             style,
@@ -168,10 +163,9 @@ fn run_block<'a>(
         let start = placed (zeros width height) recoder.old in
         OnOk result (recoder.new.wrong ≡ (recoded_from (coding_of band coded.now.style.bits planes) (coding_of band style.bits planes) coded.now.passes 0 start).wrong) }
 {
-    let labels = labels_of(alloc, coded.band)?;
-    let turns = turns_of(alloc)?;
-    let mut marks = Marks::new(alloc, width, height)?;
-    run(recoder, &mut marks, alloc, &labels, &turns, coded, style)
+    let tables = Tables::new(alloc, coded.band)?;
+    let mut marks = BlockState::new(alloc, width, height)?;
+    run(recoder, &mut marks, alloc, &tables, coded, style)
 }
 
 /// The segments in another style of a block of at most 1,024 by 1,024 places, from its coded passes

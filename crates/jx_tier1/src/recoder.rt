@@ -18,9 +18,10 @@ ghost use Rattle.jx_tier1_specs.specs.Ends.{stand_of, end_in};
 
 use crate::copier::Copier;
 use crate::ends::tell;
-use crate::marks::Marks;
+use crate::block::BlockState;
+use crate::contexts::Tables;
 use crate::questions::plane_for;
-use crate::walk_passes::walk_pass;
+use crate::passes::walk_pass;
 use jx_base::{Band, NoMemory, Style, ends_segment, is_raw};
 use jx_tier1_specs::{Stand, ask_symbol};
 use std::alloc::Global;
@@ -104,9 +105,8 @@ impl<'a> Recoder<'a> {
     /// A pass's own decisions.
     fn bits(
         &mut self,
-        marks: &mut Marks,
-        labels: &[u8],
-        turns: &[u8],
+        marks: &mut BlockState,
+        tables: &Tables,
         band: Band,
         old: Style,
         new: Style,
@@ -115,8 +115,6 @@ impl<'a> Recoder<'a> {
     ) -> Result<(), NoMemory>
         requires scan { IsScan (plane_of band (is_causal old.bits) planes pass) }
         requires few { pass ≤ 220 }
-        requires labels { AreLabels band labels.now }
-        requires turns { AreTurns turns.now }
         requires wide { marks.old.width ≤ 1024 }
         requires high { marks.old.height ≤ 1024 }
         ensures size { IsOfSize marks.old marks.new }
@@ -127,7 +125,7 @@ impl<'a> Recoder<'a> {
     {
         self.copier.renew(old, new);
         let plane = plane_for(band, old, planes, pass);
-        walk_pass(&mut self.copier, marks, labels, turns, plane, pass)?;
+        walk_pass(&mut self.copier, marks, tables, plane, pass)?;
         Ok(())
     }
 
@@ -216,9 +214,8 @@ impl<'a> Recoder<'a> {
     pub fn pass(
         &mut self,
         alloc: Global,
-        marks: &mut Marks,
-        labels: &[u8],
-        turns: &[u8],
+        marks: &mut BlockState,
+        tables: &Tables,
         band: Band,
         old: Style,
         new: Style,
@@ -226,8 +223,6 @@ impl<'a> Recoder<'a> {
         pass: u16,
         last: bool,
     ) -> Result<(), NoMemory>
-        requires labels { AreLabels band labels.now }
-        requires turns { AreTurns turns.now }
         requires scan { IsScan (plane_of band (is_causal old.bits) planes pass) }
         requires few { pass ≤ 220 }
         requires wide { marks.old.width ≤ 1024 }
@@ -239,7 +234,7 @@ impl<'a> Recoder<'a> {
             → OnOk result (Goes planes (recoded_pass (coding_of band old.bits planes) (coding_of band new.bits planes) last pass (placed g self.old)) marks.new self.new) }
     {
         self.open(old, pass);
-        self.bits(marks, labels, turns, band, old, new, planes, pass)?;
+        self.bits(marks, tables, band, old, new, planes, pass)?;
         self.check(old, pass)?;
         self.mark(new, pass)?;
         self.close(alloc, new, pass, last)?;

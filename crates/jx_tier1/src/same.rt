@@ -13,9 +13,8 @@ ghost use Rattle.jx_tier1.specs.Turns.{AreTurns};
 
 use crate::comparer::Comparer;
 use crate::half::Half;
-use crate::labels::labels_of;
-use crate::marks::Marks;
-use crate::turns::turns_of;
+use crate::contexts::Tables;
+use crate::block::BlockState;
 use jx_base::{NoMemory, Style};
 use jx_tier1_specs::Coded;
 use std::alloc::Global;
@@ -23,14 +22,11 @@ use std::alloc::Global;
 /// Reads the passes of two codings up to the first pass that has a decision which differs.
 fn run(
     comparer: &mut Comparer<'_>,
-    marks: &mut Marks,
-    labels: &[u8],
-    turns: &[u8],
+    marks: &mut BlockState,
+    tables: &Tables,
     coded: &Coded,
     style: Style,
 ) -> Result<bool, NoMemory>
-    requires labels { AreLabels coded.now.band labels.now }
-    requires turns { AreTurns turns.now }
     requires some { 1 ≤ coded.now.planes }
     requires planes { coded.now.planes ≤ 74 }
     requires passes { coded.now.passes ≤ 3 * coded.now.planes - 2 }
@@ -47,8 +43,7 @@ fn run(
     for pass in 0..coded.passes {
         comparer.pass(
             marks,
-            labels,
-            turns,
+            tables,
             coded.band,
             coded.style,
             style,
@@ -95,8 +90,7 @@ pub fn same_flags(
         two: Half::new(b.segments.as_slice()),
         alike: true,
     };
-    let labels = labels_of(alloc, a.band)?;
-    let turns = turns_of(alloc)?;
-    let mut marks = Marks::new(alloc, width, height)?;
-    run(&mut comparer, &mut marks, &labels, &turns, a, b.style)
+    let tables = Tables::new(alloc, a.band)?;
+    let mut marks = BlockState::new(alloc, width, height)?;
+    run(&mut comparer, &mut marks, &tables, a, b.style)
 }
