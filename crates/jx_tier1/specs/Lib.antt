@@ -17,4 +17,5 @@ pub mod Blocks
 pub mod Contexts
 pub mod Places
 pub mod Sights
+pub mod WordPasses
 pub mod WordScan

@@ -8,6 +8,7 @@ mod coefs;
 mod comparer;
 mod contexts;
 mod copier;
+mod decisions;
 mod decode;
 mod decoder;
 mod encode;
@@ -24,6 +25,7 @@ mod recode;
 mod recoder;
 mod rest;
 mod same;
+mod word_passes;
 mod words;
 mod writer;
 
