@@ -8,6 +8,7 @@ mod coefs;
 mod comparer;
 mod contexts;
 mod copier;
+mod decisions;
 mod decode;
 mod decoder;
 mod encode;
@@ -24,6 +25,10 @@ mod recode;
 mod recoder;
 mod rest;
 mod same;
+<<<<<<< HEAD
+=======
+mod word_passes;
+>>>>>>> c62a57e6ee9d27f2724678d235965f2063e507d2
 mod words;
 mod writer;
 

@@ -2,6 +2,7 @@
 
 use crate::block::BlockState;
 use crate::contexts::Tables;
+<<<<<<< HEAD
 use crate::questions::asked;
 use crate::places::{own_places, places_of, whole_columns};
 use crate::words::{behind, beside, following, lowest, near, raised, signed};
@@ -94,6 +95,14 @@ fn significance_word<S: Source>(
     }
     Ok((sight, seen))
 }
+=======
+use crate::decisions::{Corner, Sight};
+use crate::places::{own_places, places_of};
+use crate::word_passes::{cleanup_word, refinement_word, significance_word};
+use crate::words::near;
+use jx_base::NoMemory;
+use jx_tier1_specs::{Plane, Source};
+>>>>>>> c62a57e6ee9d27f2724678d235965f2063e507d2
 
 /// A significance pass (T.800 D.3.1).
 #[inline(never)]
@@ -133,6 +142,7 @@ fn significance_pass<S: Source>(
     Ok(())
 }
 
+<<<<<<< HEAD
 /// A refinement pass over a word.
 #[inline(always)]
 fn refinement_word<S: Source>(
@@ -154,6 +164,8 @@ fn refinement_word<S: Source>(
     Ok(())
 }
 
+=======
+>>>>>>> c62a57e6ee9d27f2724678d235965f2063e507d2
 /// A refinement pass (T.800 D.3.3).
 #[inline(never)]
 fn refinement_pass<S: Source>(
@@ -167,12 +179,20 @@ fn refinement_pass<S: Source>(
             let due = block.significant(at) & !block.visited(at);
             if due != 0 {
                 let refined = block.refined(at);
+<<<<<<< HEAD
                 let near = beside(block.window(at, plane.causal)) & !refined;
+=======
+                let window = block.window(at, plane.causal);
+>>>>>>> c62a57e6ee9d27f2724678d235965f2063e507d2
                 let corner = Corner {
                     x: 8 * group,
                     y: 4 * stripe,
                 };
+<<<<<<< HEAD
                 refinement_word(source, plane, corner, due, refined, near)?;
+=======
+                refinement_word(source, plane, corner, window, due, refined)?;
+>>>>>>> c62a57e6ee9d27f2724678d235965f2063e507d2
                 block.refine(at, refined | due);
             }
         }
@@ -180,6 +200,7 @@ fn refinement_pass<S: Source>(
     Ok(())
 }
 
+<<<<<<< HEAD
 /// The run mode: the first place of four that is 1, counted from 0; 4 where none is.
 #[inline(always)]
 fn decide_run<S: Source>(
@@ -232,6 +253,8 @@ fn cleanup_word<S: Source>(
     Ok(sight)
 }
 
+=======
+>>>>>>> c62a57e6ee9d27f2724678d235965f2063e507d2
 /// A cleanup pass (T.800 D.3.4).
 #[inline(never)]
 fn cleanup_pass<S: Source>(

@@ -156,3 +156,13 @@ pub(crate) fn first_columns(count: u16) -> u64
 {
     (1u64 << (6 * count)) - 1
 }
+
+/// The columns whose four places are in a word, at the bits of their first places.
+#[inline(always)]
+pub(crate) fn whole_columns(places: u64) -> u64
+    ensures first { (i : ℕ) → i < 48 → i % 6 ≡ 0 → bit_at result i ≡ min (min (bit_at places i) (bit_at places (i + 1))) (min (bit_at places (i + 2)) (bit_at places (i + 3))) }
+    ensures others { (i : ℕ) → i % 6 ≢ 0 → bit_at result i ≡ 0 }
+    ensures behind { (i : ℕ) → 48 ≤ i → bit_at result i ≡ 0 }
+{
+    places & places >> 1 & places >> 2 & places >> 3 & 0x0000_0410_4104_1041
+}

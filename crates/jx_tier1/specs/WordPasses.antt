@@ -1,0 +1,52 @@
+-- A coding pass within a word: what is known of the word before the pass, and what holds after it (ITU-T T.800, D.3).
+use Rattle.std.specs.Prelude.{ℕ, ◌≡◌, ◌+◌, ◌/◌, ◌%◌, nat_lt, Bool, true, false, not, ◌&&◌, ◌||◌}
+use Rattle.std.specs.Int.{bit_at}
+use Rattle.jx_tier1_specs.specs.declared.coef.Coef.{Coef}
+use Rattle.jx_tier1_specs.specs.declared.question.Plane.{Plane}
+use Rattle.jx_tier1_specs.specs.Cells.{Cells, coef_at, significant}
+use Rattle.jx_tier1_specs.specs.Near.{one_if}
+use Rattle.jx_tier1_specs.specs.Pass.{is_decided, is_refined}
+use Rattle.jx_tier1.specs.Blocks.{Sees}
+use Rattle.jx_tier1.specs.Marks.{mark}
+use Rattle.jx_tier1.specs.Sights.{IsSight, EndsIn}
+use Rattle.jx_tier1.specs.Walking.{IsNow}
+use Rattle.jx_tier1.specs.WordScan.{has_place}
+
+-- the coefficient at a bit of a word
+abbrev pub coef_in : Cells → ℕ → ℕ → ℕ → Coef
+coef_in g x y i = coef_at g (x + i / 6) (y + i % 6)
+
+-- whether a bit is one of the 48 of a word, and that of a place of the block
+abbrev pub in_word : Cells → ℕ → ℕ → ℕ → Bool
+in_word g x y i = nat_lt i 48 && has_place g x y i
+
+-- a word picks the places that pass a test
+pub record Picks (test : Coef → Bool) (g : Cells) (x y w : ℕ) : Type 0 where
+  pub place : (i : ℕ) → in_word g x y i ≡ true → bit_at w i ≡ one_if (test (coef_in g x y i))
+  pub none : (i : ℕ) → in_word g x y i ≡ false → bit_at w i ≡ 0
+
+-- before a significance pass: nothing was decided in this plane, and a word has the insignificant places (D.3.1)
+pub record BeforeSignificance (k : Plane) (g : Cells) (x y w v o : ℕ) : Type 0 where
+  pub now : IsNow k g
+  pub sight : IsSight k.causal g x y w v
+  pub fresh : (i : ℕ) → in_word g x y i ≡ true → is_decided k (coef_in g x y i) ≡ false
+  pub free : Picks (λ c. not (significant c)) g x y o
+
+-- after it: windows and source are as the pass leaves them, and a word has the places that it decided
+pub record AfterSignificance {S : Type 0} (k : Plane) (x y : ℕ) (told : Cells × S) (w v e : ℕ) (after : S) : Type 0 where
+  pub ends : EndsIn k.causal x y told w v after
+  pub seen : Picks (is_decided k) told.0 x y e
+
+-- before a refinement pass: a word has the significant places that weren't decided, another one those of them that were
+-- refined before (D.3.3)
+pub record BeforeRefinement (k : Plane) (g : Cells) (x y w d m : ℕ) : Type 0 where
+  pub now : IsNow k g
+  pub window : Sees k.causal (mark g) x y w
+  pub due : Picks (λ c. significant c && not (is_decided k c)) g x y d
+  pub refined : (i : ℕ) → in_word g x y i ≡ true → bit_at d i ≡ 1 → bit_at m i ≡ one_if (is_refined k (coef_in g x y i))
+
+-- before a cleanup pass: a word has the insignificant places that weren't decided (D.3.4)
+pub record BeforeCleanup (k : Plane) (g : Cells) (x y w v d : ℕ) : Type 0 where
+  pub now : IsNow k g
+  pub sight : IsSight k.causal g x y w v
+  pub due : Picks (λ c. not (significant c || is_decided k c)) g x y d

@@ -1,0 +1,157 @@
+//! Coding passes within a word of a block (T.800, D.3): eight columns of a stripe.
+
+ghost use Rattle.std.specs.Prelude.{◌≡◌, ◌+◌, ◌/◌, ◌%◌, ◌<◌, ◌≤◌, ℕ, Bool, IfOk, OnOk};
+ghost use Rattle.jx_tier1_specs.specs.Cells.{Cells};
+ghost use Rattle.jx_tier1_specs.specs.Asking.{told};
+ghost use Rattle.jx_tier1_specs.specs.Pass.{IsScan, zeroed, named_at, run_at};
+ghost use Rattle.jx_tier1.specs.Places.{IsWord};
+ghost use Rattle.jx_tier1.specs.Sights.{IsBit, EndsIn};
+ghost use Rattle.jx_tier1.specs.WordPasses.{BeforeSignificance, AfterSignificance, BeforeRefinement, BeforeCleanup};
+ghost use Rattle.jx_tier1.specs.WordScan.{bits_scanned};
+
+use crate::contexts::Tables;
+use crate::decisions::{Corner, Sight, decide_bit, decide_sign};
+use crate::questions::asked;
+use crate::words::{behind, beside, following, lowest, near, whole_columns};
+use jx_base::NoMemory;
+use jx_tier1_specs::{About, Plane, Source};
+
+/// A significance pass over a word (T.800 D.3.1), by its windows and its insignificant places. Gives
+/// the windows after it, and the places that it decided. After `NoMemory` the source is given up.
+#[inline(always)]
+pub(crate) fn significance_word<S: Source>(
+    source: &mut S,
+    tables: &Tables,
+    plane: Plane,
+    corner: Corner,
+    sight: Sight,
+    free: u64,
+) -> Result<(Sight, u64), NoMemory>
+    requires scan { IsScan plane }
+    requires band { tables.now ≡ plane.band }
+    requires wide { corner.x < 1024 }
+    requires high { corner.y < 1024 }
+    requires first { corner.y % 4 ≡ 0 }
+    requires free { IsWord free }
+    ensures walk { (g : Cells) → BeforeSignificance plane g corner.x corner.y sight.window sight.signs free
+        → IfOk result (λ after. AfterSignificance plane corner.x corner.y (told S.ask (bits_scanned 1 plane corner.x corner.y 48 0 g) source.old) after.0.window after.0.signs after.1 source.new) }
+{
+    let mut sight = sight;
+    let mut due = near(sight.window) & free;
+    let mut seen = due;
+    while due != 0 {
+        let place = lowest(due);
+        due = behind(due, place);
+        if decide_bit(source, tables, plane, corner, sight, place)? {
+            let more = following(place) & free;
+            due |= more;
+            seen |= more;
+            sight = decide_sign(source, tables, plane, corner, sight, place)?;
+        }
+    }
+    Ok((sight, seen))
+}
+
+/// A refinement pass over a word (T.800 D.3.3), by its window, the significant places that weren't
+/// decided in this plane, and the places that were refined before. After `NoMemory` the source is
+/// given up.
+#[inline(always)]
+pub(crate) fn refinement_word<S: Source>(
+    source: &mut S,
+    plane: Plane,
+    corner: Corner,
+    window: u64,
+    places: u64,
+    refined: u64,
+) -> Result<(), NoMemory>
+    requires scan { IsScan plane }
+    requires wide { corner.x < 1024 }
+    requires high { corner.y < 1024 }
+    requires first { corner.y % 4 ≡ 0 }
+    ensures walk { (g : Cells) → BeforeRefinement plane g corner.x corner.y window places refined
+        → OnOk result (source.new ≡ (told S.ask (bits_scanned 2 plane corner.x corner.y 48 0 g) source.old).1) }
+{
+    let near = beside(window) & !refined;
+    let mut due = places;
+    while due != 0 {
+        let place = lowest(due);
+        due = behind(due, place);
+        let label = 14 + 2 * (refined >> place & 1) + (near >> place & 1);
+        let about = About::Bit(corner.column(place), corner.row(place));
+        source.ask(asked(plane, label as u8, false, about))?;
+    }
+    Ok(())
+}
+
+/// The run mode of a column that begins at a place (T.800 D.3.4): the first of its four places that is
+/// 1, counted from 0; 4 if none is.
+#[inline(always)]
+pub(crate) fn decide_run<S: Source>(
+    source: &mut S,
+    plane: Plane,
+    corner: Corner,
+    place: u32,
+) -> Result<u32, NoMemory>
+    requires scan { IsScan plane }
+    requires place { IsBit place }
+    requires wide { corner.x < 1024 }
+    requires high { corner.y < 1024 }
+    ensures few { IfOk result (λ row. row ≤ 4) }
+    ensures none { (g : Cells) → IfOk result (λ row. row ≡ 4
+        → told S.ask (run_at plane g (corner.x + place / 6) (corner.y + place % 6)) source.old ≡ (zeroed plane 4 g (corner.x + place / 6) (corner.y + place % 6), source.new)) }
+    ensures named { (g : Cells) → IfOk result (λ row. row < 4
+        → told S.ask (run_at plane g (corner.x + place / 6) (corner.y + place % 6)) source.old ≡ told S.ask (named_at plane g (corner.x + place / 6) (corner.y + place % 6) row) source.new) }
+{
+    let x = corner.column(place);
+    let y = corner.row(place);
+    if !source.ask(asked(plane, 17, false, About::Run(x, y)))? {
+        return Ok(4);
+    }
+    let high = source.ask(asked(plane, 18, false, About::High(x, y)))?;
+    let low = source.ask(asked(plane, 18, false, About::Low(x, y)))?;
+    Ok(2 * u32::from(high) + u32::from(low))
+}
+
+/// A cleanup pass over a word (T.800 D.3.4), by its windows and the insignificant places that weren't
+/// decided in this plane. Gives the windows after it. After `NoMemory` the source is given up.
+#[inline(always)]
+pub(crate) fn cleanup_word<S: Source>(
+    source: &mut S,
+    tables: &Tables,
+    plane: Plane,
+    corner: Corner,
+    sight: Sight,
+    places: u64,
+) -> Result<Sight, NoMemory>
+    requires scan { IsScan plane }
+    requires band { tables.now ≡ plane.band }
+    requires wide { corner.x < 1024 }
+    requires high { corner.y < 1024 }
+    requires first { corner.y % 4 ≡ 0 }
+    requires places { IsWord places }
+    ensures walk { (g : Cells) → BeforeCleanup plane g corner.x corner.y sight.window sight.signs places
+        → IfOk result (λ after. EndsIn plane.causal corner.x corner.y (told S.ask (bits_scanned 0 plane corner.x corner.y 48 0 g) source.old) after.window after.signs source.new) }
+{
+    let mut sight = sight;
+    let mut due = places;
+    let mut runs = whole_columns(places & !near(sight.window));
+    while due != 0 {
+        let place = lowest(due);
+        let mut first = place;
+        if (runs >> place) % 2 != 0 {
+            let row = decide_run(source, plane, corner, place)?;
+            if row == 4 {
+                due = behind(due, place + 3);
+                continue;
+            }
+            first = place + row;
+        } else if !decide_bit(source, tables, plane, corner, sight, place)? {
+            due = behind(due, place);
+            continue;
+        }
+        sight = decide_sign(source, tables, plane, corner, sight, first)?;
+        runs = behind(runs, first + 6);
+        due = behind(due, first);
+    }
+    Ok(sight)
+}
