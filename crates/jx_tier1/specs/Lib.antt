@@ -17,8 +17,5 @@ pub mod Blocks
 pub mod Contexts
 pub mod Places
 pub mod Sights
-<<<<<<< HEAD
-=======
 pub mod WordPasses
->>>>>>> c62a57e6ee9d27f2724678d235965f2063e507d2
 pub mod WordScan

@@ -25,10 +25,7 @@ mod recode;
 mod recoder;
 mod rest;
 mod same;
-<<<<<<< HEAD
-=======
 mod word_passes;
->>>>>>> c62a57e6ee9d27f2724678d235965f2063e507d2
 mod words;
 mod writer;
 

@@ -16,12 +16,3 @@ pub(crate) fn places_of(block: &BlockState, stripe: u16, group: u16) -> u64 {
 pub(crate) fn own_places(window: u64, places: u64) -> u64 {
     window >> 7 & places
 }
-<<<<<<< HEAD
-
-/// The columns whose four places are in a word, at the bits of their first places.
-#[inline(always)]
-pub(crate) fn whole_columns(places: u64) -> u64 {
-    places & places >> 1 & places >> 2 & places >> 3 & 0x0000_0410_4104_1041
-}
-=======
->>>>>>> c62a57e6ee9d27f2724678d235965f2063e507d2
