@@ -40,6 +40,20 @@ minus_there g x y a b =
     minus_in g (x + 1) (y + 1) (record { left = omega arith; top = omega arith; right = omega arith; bottom = omega arith })
     ∙ ap (λ (d : Coef). one_if d.negative) (back g x y)
 
+-- a coefficient that keeps its sign
+pub minus_kept : (g : Cells) (x y : ℕ) (coef : Coef) (c r : ℕ) → IsWholeAt g x y → coef.negative ≡ (coef_at g x y).negative
+    → minus (with_coef g x y coef) c r ≡ minus g c r
+minus_kept g x y coef c r s e =
+    let here = minus_here g x y coef s ∙ (ap one_if e ∙ sym (minus_there g x y s.column s.row)) in
+    elim (cases_eq c (x + 1)) [
+      | inl p ↦ elim (cases_eq r (y + 1)) [
+        | inl q ↦ subst (λ (m : ℕ). minus (with_coef g x y coef) m r ≡ minus g m r) (sym p)
+            (subst (λ (m : ℕ). minus (with_coef g x y coef) (x + 1) m ≡ minus g (x + 1) m) (sym q) here)
+        | inr q ↦ minus_other g x y coef c r s.column (λ _. q)
+      ]
+      | inr p ↦ minus_other g x y coef c r s.column (λ d _. p d)
+    ]
+
 -- a window of a value that changes at one place, which has the bit behind six of a column and one
 pub sees_changed : (causal : Bool) (F G : ℕ → ℕ → ℕ) (x y w v c r : ℕ) → Sees causal F x y w → c < 8 → r < 4
     → ((column row : ℕ) → (column ≡ x + c + 1 → row ≡ y + r + 1 → ⊥) → G column row ≡ F column row)

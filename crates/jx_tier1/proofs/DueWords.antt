@@ -11,38 +11,34 @@ use Rattle.jx_tier1_specs.specs.declared.question.Plane.{Plane}
 use Rattle.jx_tier1_specs.specs.Cells.{Cells, zero_coef, coef_at, with_coef, significant}
 use Rattle.jx_tier1_specs.specs.Near.{one_if}
 use Rattle.jx_tier1_specs.specs.Pass.{is_decided}
-use Rattle.jx_tier1.specs.Places.{of_nine}
+use Rattle.jx_tier1.specs.Places.{IsWord, of_nine}
+use Rattle.jx_tier1.specs.Sights.{IsBit}
+use Rattle.jx_tier1.specs.WordPasses.{IsDue, coef_in, in_word}
 use Rattle.jx_tier1.specs.WordScan.{has_place}
 use Rattle.jx_tier1.proofs.MarkLemmas.{IsWholeAt, same_place, index_below}
 use Rattle.jx_tier1.proofs.NextLemmas.{IsRaised, nine_less, nine_raised}
 
--- the coefficient at a bit of a word
-abbrev pub coef_in : Cells → ℕ → ℕ → ℕ → Coef
-coef_in g x y i = coef_at g (x + i / 6) (y + i % 6)
-
--- from a bit on: which places are insignificant, that none is decided, and which are due; before it which are decided
-pub record IsDue (k : Plane) (g : Cells) (x y w o d e b : ℕ) : Type 0 where
-  pub free : (i : ℕ) → b ≤ i → has_place g x y i ≡ true → bit_at o i ≡ one_if (not (significant (coef_in g x y i)))
-  pub none : (i : ℕ) → has_place g x y i ≡ false → bit_at o i ≡ 0
-  pub fresh : (i : ℕ) → b ≤ i → has_place g x y i ≡ true → (coef_in g x y i).planes ≡ k.number
-  pub due : (i : ℕ) → b ≤ i → bit_at d i ≡ min (of_nine w i) (bit_at o i)
-  pub before : (i : ℕ) → i < b → bit_at d i ≡ 0
-  pub seen : (i : ℕ) → i < b → has_place g x y i ≡ true → bit_at e i ≡ one_if (is_decided k (coef_in g x y i))
-  pub coming : (i : ℕ) → b ≤ i → bit_at e i ≡ bit_at d i
-
 -- a place by its tests
 pub record IsPlaceOf (g : Cells) (x y i : ℕ) : Type 0 where
+  pub few : i < 48
   pub gap : i % 6 < 4
   pub column : x + i / 6 < g.width
   pub row : y + i % 6 < g.height
 
-tests_of : (a b c d e f : ℕ) → (nat_lt a b && (nat_lt c d && nat_lt e f)) ≡ true → (a < b) × (c < d) × (e < f)
-tests_of a b c d e f h = grind (arith, nat_tests)
+tests_of : (n m a b c d e f : ℕ) → (nat_lt n m && (nat_lt a b && (nat_lt c d && nat_lt e f))) ≡ true → (n < m) × (a < b) × (c < d) × (e < f)
+tests_of n m a b c d e f h = grind (arith, nat_tests)
 
-pub place_of : (g : Cells) (x y i : ℕ) → has_place g x y i ≡ true → IsPlaceOf g x y i
+pub place_of : (g : Cells) (x y i : ℕ) → in_word g x y i ≡ true → IsPlaceOf g x y i
 place_of g x y i e =
-    let t = tests_of (i % 6) 4 (x + i / 6) g.width (y + i % 6) g.height e in
-    record { gap = t.0; column = t.1; row = t.2 }
+    let t = tests_of i 48 (i % 6) 4 (x + i / 6) g.width (y + i % 6) g.height e in
+    record { few = t.0; gap = t.1; column = t.2; row = t.3 }
+
+-- a bit of a word that is no place of the block
+pub no_place : (g : Cells) (x y i : ℕ) → i < 48 → in_word g x y i ≡ false → has_place g x y i ≡ false
+no_place g x y i l e = sym (ap (λ (b : Bool). b && has_place g x y i) (lt-ltb i 48 l)) ∙ e
+
+pub some_place : (g : Cells) (x y i : ℕ) → i < 48 → in_word g x y i ≡ has_place g x y i
+some_place g x y i l = ap (λ (b : Bool). b && has_place g x y i) (lt-ltb i 48 l)
 
 -- another place's coefficient stays
 pub coef_other : (g : Cells) (x y i j : ℕ) (coef : Coef) → IsPlaceOf g x y i → IsPlaceOf g x y j → i ≢ j
@@ -58,16 +54,13 @@ pub coef_same : (g : Cells) (x y i : ℕ) (coef : Coef) → IsWholeAt g (x + i /
 coef_same g x y i coef s = get_or-set_same g.coefs ((y + i % 6) * g.width + (x + i / 6)) coef zero_coef (index_below g (x + i / 6) (y + i % 6) s)
 
 -- a place that was decided
-decided_next : (k : Plane) (c : Coef) → c.planes ≡ k.number + 1 → is_decided k c ≡ true
+pub decided_next : (k : Plane) (c : Coef) → c.planes ≡ k.number + 1 → is_decided k c ≡ true
 decided_next k c e = lt-ltb k.number c.planes (omega arith)
-
-pub undecided : (k : Plane) (c : Coef) → c.planes ≡ k.number → is_decided k c ≡ false
-undecided k c e = le-ltb k.number c.planes (omega arith)
 
 spread : (n f o : ℕ) → n ≤ 1 → f ≤ 1 → o ≤ 1 → max (min n o) (min f o) ≡ min (max n f) o
 spread n f o a b c = omega arith
 
-bit_le : (n i : ℕ) → bit_at n i ≤ 1
+pub bit_le : (n i : ℕ) → bit_at n i ≤ 1
 bit_le n i = let a = bit_at-lt n i in omega arith
 
 -- a bit is 0: the place is decided
@@ -77,12 +70,12 @@ pub due_zero : (k : Plane) (g : Cells) (x y w free due seen rest b : ℕ) (coef 
     → IsDue k (with_coef g (x + b / 6) (y + b % 6) coef) x y w free rest seen (b + 1)
 due_zero k g x y w free due seen rest b coef d p s one e before behind =
     let h : Cells = with_coef g (x + b / 6) (y + b % 6) coef in
-    let same : (i : ℕ) → (i ≢ b) → has_place g x y i ≡ true → coef_in h x y i ≡ coef_in g x y i =
-    λ (i : ℕ) (n : i ≢ b) (t : has_place g x y i ≡ true). coef_other g x y i b coef (place_of g x y i t) p n in
+    let same : (i : ℕ) → (i ≢ b) → in_word g x y i ≡ true → coef_in h x y i ≡ coef_in g x y i =
+    λ (i : ℕ) (n : i ≢ b) (t : in_word g x y i ≡ true). coef_other g x y i b coef (place_of g x y i t) p n in
     record {
       free = λ i l t. d.free i (omega arith) t ∙ ap (λ (z : Coef). one_if (not (significant z))) (sym (same i (λ z. absurd (omega arith)) t));
       none = λ i t. d.none i t;
-      fresh = λ i l t. ap (λ (z : Coef). z.planes) (same i (λ z. absurd (omega arith)) t) ∙ d.fresh i (omega arith) t;
+      fresh = λ i l t. ap (λ (z : Coef). is_decided k z) (same i (λ z. absurd (omega arith)) t) ∙ d.fresh i (omega arith) t;
       due = λ i l. behind i (omega arith) ∙ d.due i (omega arith);
       before = λ i l. before i (omega arith);
       seen = λ i l t. elim (cases_eq i b) [
@@ -93,6 +86,7 @@ due_zero k g x y w free due seen rest b coef d p s one e before behind =
         | inr z ↦ d.seen i (omega arith) t ∙ ap (λ (n : Coef). one_if (is_decided k n)) (sym (same i z t))
       ];
       coming = λ i l. d.coming i (omega arith) ∙ sym (behind i (omega arith));
+      blank = λ i t. d.blank i t;
     }
 
 -- a bit is 1: places behind it become due
@@ -104,14 +98,14 @@ pub due_one : (k : Plane) (g : Cells) (x y w v f free due seen next after b : �
     → IsDue k (with_coef g (x + b / 6) (y + b % 6) coef) x y v free next after (b + 1)
 due_one k g x y w v f free due seen next after b coef d p s one e r before behind more low =
     let h : Cells = with_coef g (x + b / 6) (y + b % 6) coef in
-    let same : (i : ℕ) → (i ≢ b) → has_place g x y i ≡ true → coef_in h x y i ≡ coef_in g x y i =
-    λ (i : ℕ) (n : i ≢ b) (t : has_place g x y i ≡ true). coef_other g x y i b coef (place_of g x y i t) p n in
+    let same : (i : ℕ) → (i ≢ b) → in_word g x y i ≡ true → coef_in h x y i ≡ coef_in g x y i =
+    λ (i : ℕ) (n : i ≢ b) (t : in_word g x y i ≡ true). coef_other g x y i b coef (place_of g x y i t) p n in
     let kept : (i : ℕ) → i ≤ b → bit_at after i ≡ bit_at seen i =
     λ (i : ℕ) (l : i ≤ b). more i ∙ (let z = low i l in let q : max (bit_at seen i) (min (bit_at f i) (bit_at free i)) ≡ bit_at seen i = omega arith in q) in
     record {
       free = λ i l t. d.free i (omega arith) t ∙ ap (λ (z : Coef). one_if (not (significant z))) (sym (same i (λ z. absurd (omega arith)) t));
       none = λ i t. d.none i t;
-      fresh = λ i l t. ap (λ (z : Coef). z.planes) (same i (λ z. absurd (omega arith)) t) ∙ d.fresh i (omega arith) t;
+      fresh = λ i l t. ap (λ (z : Coef). is_decided k z) (same i (λ z. absurd (omega arith)) t) ∙ d.fresh i (omega arith) t;
       due = λ i l.
           behind i (omega arith)
           ∙ (ap (λ (n : ℕ). max n (min (bit_at f i) (bit_at free i))) (d.due i (omega arith))
@@ -126,6 +120,10 @@ due_one k g x y w v f free due seen next after b coef d p s one e r before behin
         | inr z ↦ d.seen i (omega arith) t ∙ ap (λ (n : Coef). one_if (is_decided k n)) (sym (same i z t))
       ];
       coming = λ i l. more i ∙ (ap (λ (n : ℕ). max n (min (bit_at f i) (bit_at free i))) (d.coming i (omega arith)) ∙ sym (behind i (omega arith)));
+      blank = λ i t.
+          let a = d.blank i t in
+          let c = d.none i t in
+          more i ∙ (let q : max (bit_at seen i) (min (bit_at f i) (bit_at free i)) ≡ 0 = omega arith in q);
     }
 
 -- places that aren't due are passed over
@@ -139,7 +137,29 @@ due_later k g x y w free due seen a b d l none = record {
   before = λ i m. elim (cases_lt i a) [ inl p ↦ d.before i p | inr p ↦ none i p m ];
   seen = λ i m t. elim (cases_lt i a) [
     | inl p ↦ d.seen i p t
-    | inr p ↦ d.coming i p ∙ (none i p m ∙ sym (ap one_if (undecided k (coef_in g x y i) (d.fresh i p t))))
+    | inr p ↦ d.coming i p ∙ (none i p m ∙ sym (ap one_if (d.fresh i p t)))
   ];
   coming = λ i m. d.coming i (omega arith);
+  blank = λ i t. d.blank i t;
 }
+
+-- bits of what is left behind a place
+pub less_bit : (a b : ℕ) → a ≡ 0 → max a b ≡ b
+less_bit a b e = omega arith
+
+pub more_bit : (d n o p i : ℕ) → ((j : ℕ) → j ≤ p → bit_at n j ≡ 0) → ((j : ℕ) → p < j → bit_at n j ≡ bit_at d j) → bit_at n i ≤ max (bit_at d i) (bit_at o i)
+more_bit d n o p i before behind =
+    elim (cases_lt p i) [
+      | inl l ↦ let e = behind i l in omega arith
+      | inr l ↦ let e = before i l in omega arith
+    ]
+
+-- a bit of a word of places
+pub bit_of_word : (w i : ℕ) → IsWord w → bit_at w i ≡ 1 → IsBit i
+bit_of_word w i s e = record {
+  column = elim (cases_lt i 48) [ inl l ↦ l | inr l ↦ let z = s.behind i l in absurd (omega arith) ];
+  row = elim (cases_lt (i % 6) 4) [ inl l ↦ l | inr l ↦ let z = s.between i l in absurd (omega arith) ];
+}
+
+pub above : (a b : ℕ) → a ≡ 1 → a ≤ b → b ≤ 1 → b ≡ 1
+above a b e l m = omega arith

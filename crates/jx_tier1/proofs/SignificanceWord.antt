@@ -10,8 +10,9 @@ use Rattle.jx_tier1_specs.specs.Pass.{pass_at, significance_at, bit_of, label_at
 use Rattle.jx_tier1.specs.Blocks.{Sees}
 use Rattle.jx_tier1.specs.Marks.{mark}
 use Rattle.jx_tier1.specs.Places.{of_nine, of_eight}
+use Rattle.jx_tier1.specs.WordPasses.{IsDue, coef_in, in_word}
 use Rattle.jx_tier1.specs.WordScan.{has_place, pass_at_bit}
-use Rattle.jx_tier1.proofs.DueWords.{IsDue, IsPlaceOf, place_of, coef_in, undecided}
+use Rattle.jx_tier1.proofs.DueWords.{IsPlaceOf, place_of, no_place, some_place}
 use Rattle.jx_tier1.proofs.MarkLemmas.{mark_there}
 use Rattle.jx_tier1.proofs.NextLemmas.{nine_less, eight_none}
 use Rattle.jx_tier1.proofs.SightLemmas.{SeesNine, sees_nine, label_none, label_some, nine_as_eight, shown, not_five}
@@ -34,11 +35,11 @@ no_nine n o e f = omega arith
 pub not_due : (pass : ℕ) (k : Plane) (g : Cells) (x y w free due seen b i : ℕ) → pass % 3 ≡ 1 → IsDue k g x y w free due seen b → Sees k.causal (mark g) x y w → y % 4 ≡ 0
     → i < 48 → b ≤ i → bit_at due i ≡ 0 → pass_at_bit pass k g x y i ≡ Told g
 not_due pass k g x y w free due seen b i e d s f l m z =
-    elim (cases_Bool (has_place g x y i)) [
-      | inr t ↦ at_no_place pass k g x y i t
+    elim (cases_Bool (in_word g x y i)) [
+      | inr t ↦ at_no_place pass k g x y i (no_place g x y i l t)
       | inl t ↦
           (let p = place_of g x y i t in
-          at_place pass k g x y i t
+          at_place pass k g x y i (sym (some_place g x y i l) ∙ t)
           ∙ (kind_is pass k g (x + i / 6) (y + i % 6) e
           ∙ elim (cases_Bool (significant (coef_in g x y i))) [
             | inl a ↦ significance_marked k g (x + i / 6) (y + i % 6) a
@@ -91,7 +92,7 @@ pub is_due : (pass : ℕ) (k : Plane) (g : Cells) (x y w free due seen i : ℕ) 
     → i < 48 → bit_at due i ≡ 1 → bit_at free i ≤ 1 → Asks pass k g x y i
 is_due pass k g x y w free due seen i e d s f l one small =
     let both = both_one (of_nine w i) (bit_at free i) (nine_less w i) small (sym (d.due i (omega arith)) ∙ one) in
-    elim (cases_Bool (has_place g x y i)) [
+    elim (cases_Bool (in_word g x y i)) [
       | inr t ↦ absurd (not_zero_one (bit_at free i) (d.none i t) both.1)
       | inl t ↦
           (let p = place_of g x y i t in
@@ -101,10 +102,10 @@ is_due pass k g x y w free due seen i e d s f l one small =
           let eight : of_eight w i ≡ 1 = sym (nine_as_eight w i here) ∙ both.0 in
           record {
             place = p;
-            has = t;
-            bit = at_place pass k g x y i t
+            has = sym (some_place g x y i l) ∙ t;
+            bit = at_place pass k g x y i (sym (some_place g x y i l) ∙ t)
                 ∙ (kind_is pass k g (x + i / 6) (y + i % 6) e
-                ∙ significance_asked k g (x + i / 6) (y + i % 6) a (undecided k (coef_in g x y i) (d.fresh i (omega arith) t))
+                ∙ significance_asked k g (x + i / 6) (y + i % 6) a (d.fresh i (omega arith) t)
                 (λ z. label_some k g (x + i / 6) (y + i % 6) w i n eight z));
             none = a;
           })

@@ -1,5 +1,5 @@
 -- A coding pass within a word: what is known of the word before the pass, and what holds after it (ITU-T T.800, D.3).
-use Rattle.std.specs.Prelude.{ℕ, ◌≡◌, ◌+◌, ◌/◌, ◌%◌, nat_lt, Bool, true, false, not, ◌&&◌, ◌||◌}
+use Rattle.std.specs.Prelude.{ℕ, ◌≡◌, ◌<◌, ◌≤◌, ◌+◌, ◌/◌, ◌%◌, min, nat_lt, Bool, true, false, not, ◌&&◌, ◌||◌}
 use Rattle.std.specs.Int.{bit_at}
 use Rattle.jx_tier1_specs.specs.declared.coef.Coef.{Coef}
 use Rattle.jx_tier1_specs.specs.declared.question.Plane.{Plane}
@@ -8,6 +8,7 @@ use Rattle.jx_tier1_specs.specs.Near.{one_if}
 use Rattle.jx_tier1_specs.specs.Pass.{is_decided, is_refined}
 use Rattle.jx_tier1.specs.Blocks.{Sees}
 use Rattle.jx_tier1.specs.Marks.{mark}
+use Rattle.jx_tier1.specs.Places.{of_nine}
 use Rattle.jx_tier1.specs.Sights.{IsSight, EndsIn}
 use Rattle.jx_tier1.specs.Walking.{IsNow}
 use Rattle.jx_tier1.specs.WordScan.{has_place}
@@ -31,6 +32,27 @@ pub record BeforeSignificance (k : Plane) (g : Cells) (x y w v o : ℕ) : Type 0
   pub sight : IsSight k.causal g x y w v
   pub fresh : (i : ℕ) → in_word g x y i ≡ true → is_decided k (coef_in g x y i) ≡ false
   pub free : Picks (λ c. not (significant c)) g x y o
+
+-- from a bit on which places are insignificant, that none was decided, and which are due; before it which were decided
+pub record IsDue (k : Plane) (g : Cells) (x y w o d e b : ℕ) : Type 0 where
+  pub free : (i : ℕ) → b ≤ i → in_word g x y i ≡ true → bit_at o i ≡ one_if (not (significant (coef_in g x y i)))
+  pub none : (i : ℕ) → in_word g x y i ≡ false → bit_at o i ≡ 0
+  pub fresh : (i : ℕ) → b ≤ i → in_word g x y i ≡ true → is_decided k (coef_in g x y i) ≡ false
+  pub due : (i : ℕ) → b ≤ i → bit_at d i ≡ min (of_nine w i) (bit_at o i)
+  pub before : (i : ℕ) → i < b → bit_at d i ≡ 0
+  pub seen : (i : ℕ) → i < b → in_word g x y i ≡ true → bit_at e i ≡ one_if (is_decided k (coef_in g x y i))
+  pub coming : (i : ℕ) → b ≤ i → bit_at e i ≡ bit_at d i
+  pub blank : (i : ℕ) → in_word g x y i ≡ false → bit_at e i ≡ 0
+
+-- within the pass, at a bit: windows, what is due, and what was decided or is due
+pub record Seeks (k : Plane) (g : Cells) (x y w v o d e b : ℕ) : Type 0 where
+  pub now : IsNow k g
+  pub sight : IsSight k.causal g x y w v
+  pub due : IsDue k g x y w o d e b
+
+pub record SeeksIn {S : Type 0} (k : Plane) (x y : ℕ) (told : Cells × S) (w v o d e b : ℕ) (after : S) : Type 0 where
+  pub word : Seeks k told.0 x y w v o d e b
+  pub source : after ≡ told.1
 
 -- after it: windows and source are as the pass leaves them, and a word has the places that it decided
 pub record AfterSignificance {S : Type 0} (k : Plane) (x y : ℕ) (told : Cells × S) (w v e : ℕ) (after : S) : Type 0 where

@@ -17,3 +17,7 @@ pass_at_bit pass k g x y p = if has_place g x y p then pass_at pass k g (x + p /
 abbrev pub bits_scanned : ℕ → Plane → ℕ → ℕ → ℕ → ℕ → Cells → Asking Cells
 bits_scanned pass k x y zero p g = Told g
 bits_scanned pass k x y (suc count) p g = and_then (pass_at_bit pass k g x y p) (λ h. bits_scanned pass k x y count (p + 1) h)
+
+-- the pass over a word, at all its bits
+unfoldable pub word_pass : ℕ → Plane → ℕ → ℕ → Cells → Asking Cells
+word_pass pass k x y g = bits_scanned pass k x y 48 0 g

@@ -1,6 +1,7 @@
 //! What a coding pass decides at a place of a word (T.800, D.3).
 
-ghost use Rattle.std.specs.Prelude.{◌≡◌, ◌+◌, ◌*◌, ◌/◌, ◌%◌, ◌<◌, ◌≤◌, ℕ, Bool, false, IfOk, OnOk};
+ghost use Rattle.std.specs.Prelude.{◌≡◌, ◌≢◌, ◌+◌, ◌*◌, ◌/◌, ◌%◌, ◌<◌, ◌≤◌, ℕ, Bool, false, IfOk, OnOk};
+ghost use Rattle.std.specs.Int.{bit_at};
 ghost use Rattle.jx_tier1_specs.specs.declared.question.About.TheVariants.{Bit};
 ghost use Rattle.jx_tier1_specs.specs.Cells.{Cells, coef_at};
 ghost use Rattle.jx_tier1_specs.specs.Asking.{told};
@@ -93,6 +94,8 @@ pub(crate) fn decide_sign<S: Source>(
     ensures walk { (g : Cells) → IsSight plane.causal g corner.x corner.y sight.window sight.signs
         → IsPlaceIn g (corner.x + place / 6) (corner.y + place % 6) → (coef_at g (corner.x + place / 6) (corner.y + place % 6)).negative ≡ false
         → IfOk result (λ after. EndsIn plane.causal corner.x corner.y (told S.ask (sign_of plane g (corner.x + place / 6) (corner.y + place % 6)) source.old) after.window after.signs source.new) }
+    ensures there { IfOk result (λ after. bit_at after.window (place + 7) ≡ 1) }
+    ensures others { IfOk result (λ after. (i : ℕ) → i ≢ place + 7 → bit_at after.window i ≡ bit_at sight.window i) }
 {
     let (label, turned) = tables.sign(sight.window, sight.signs, place);
     let about = About::Sign(corner.column(place), corner.row(place));

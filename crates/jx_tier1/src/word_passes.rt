@@ -1,13 +1,14 @@
 //! Coding passes within a word of a block (T.800, D.3): eight columns of a stripe.
 
-ghost use Rattle.std.specs.Prelude.{◌≡◌, ◌+◌, ◌/◌, ◌%◌, ◌<◌, ◌≤◌, ℕ, Bool, IfOk, OnOk};
+ghost use Rattle.std.specs.Prelude.{◌≡◌, ◌+◌, ◌/◌, ◌%◌, ◌^◌, ◌<◌, ◌≤◌, ℕ, Bool, max, IfOk, OnOk};
+ghost use Rattle.std.specs.Int.{bit_at};
 ghost use Rattle.jx_tier1_specs.specs.Cells.{Cells};
 ghost use Rattle.jx_tier1_specs.specs.Asking.{told};
 ghost use Rattle.jx_tier1_specs.specs.Pass.{IsScan, zeroed, named_at, run_at};
 ghost use Rattle.jx_tier1.specs.Places.{IsWord};
 ghost use Rattle.jx_tier1.specs.Sights.{IsBit, EndsIn};
-ghost use Rattle.jx_tier1.specs.WordPasses.{BeforeSignificance, AfterSignificance, BeforeRefinement, BeforeCleanup};
-ghost use Rattle.jx_tier1.specs.WordScan.{bits_scanned};
+ghost use Rattle.jx_tier1.specs.WordPasses.{Seeks, SeeksIn, BeforeSignificance, AfterSignificance, BeforeRefinement, BeforeCleanup};
+ghost use Rattle.jx_tier1.specs.WordScan.{pass_at_bit, word_pass};
 
 use crate::contexts::Tables;
 use crate::decisions::{Corner, Sight, decide_bit, decide_sign};
@@ -15,6 +16,56 @@ use crate::questions::asked;
 use crate::words::{behind, beside, following, lowest, near, whole_columns};
 use jx_base::NoMemory;
 use jx_tier1_specs::{About, Plane, Source};
+
+/// A word within a significance pass: its windows, the places that are due, and those that were
+/// decided or are due.
+#[derive(Clone, Copy)]
+struct Seeking {
+    sight: Sight,
+    due: u64,
+    seen: u64,
+}
+
+/// Decides the bit of a place that is due, and at 1 its sign (T.800 D.3.1).
+#[inline(always)]
+fn significance_place<S: Source>(
+    source: &mut S,
+    tables: &Tables,
+    plane: Plane,
+    corner: Corner,
+    word: Seeking,
+    free: u64,
+    place: u32,
+) -> Result<Seeking, NoMemory>
+    requires scan { IsScan plane }
+    requires band { tables.now ≡ plane.band }
+    requires wide { corner.x < 1024 }
+    requires high { corner.y < 1024 }
+    requires first { corner.y % 4 ≡ 0 }
+    requires place { IsBit place }
+    requires one { bit_at word.due place ≡ 1 }
+    ensures walk { (g : Cells) → Seeks plane g corner.x corner.y word.sight.window word.sight.signs free word.due word.seen place
+        → IfOk result (λ after. SeeksIn plane corner.x corner.y (told S.ask (pass_at_bit 1 plane g corner.x corner.y place) source.old) after.sight.window after.sight.signs free after.due after.seen (place + 1) source.new) }
+    ensures before { IfOk result (λ after. (i : ℕ) → i ≤ place → bit_at after.due i ≡ 0) }
+    ensures within { IfOk result (λ after. (i : ℕ) → bit_at after.due i ≤ max (bit_at word.due i) (bit_at free i)) }
+    ensures fits { IfOk result (λ after. after.due < 2 ^ 64) }
+{
+    let due = behind(word.due, place);
+    if !decide_bit(source, tables, plane, corner, word.sight, place)? {
+        return Ok(Seeking {
+            sight: word.sight,
+            due,
+            seen: word.seen,
+        });
+    }
+    let more = following(place) & free;
+    let sight = decide_sign(source, tables, plane, corner, word.sight, place)?;
+    Ok(Seeking {
+        sight,
+        due: due | more,
+        seen: word.seen | more,
+    })
+}
 
 /// A significance pass over a word (T.800 D.3.1), by its windows and its insignificant places. Gives
 /// the windows after it, and the places that it decided. After `NoMemory` the source is given up.
@@ -34,22 +85,19 @@ pub(crate) fn significance_word<S: Source>(
     requires first { corner.y % 4 ≡ 0 }
     requires free { IsWord free }
     ensures walk { (g : Cells) → BeforeSignificance plane g corner.x corner.y sight.window sight.signs free
-        → IfOk result (λ after. AfterSignificance plane corner.x corner.y (told S.ask (bits_scanned 1 plane corner.x corner.y 48 0 g) source.old) after.0.window after.0.signs after.1 source.new) }
+        → IfOk result (λ after. AfterSignificance plane corner.x corner.y (told S.ask (word_pass 1 plane corner.x corner.y g) source.old) after.0.window after.0.signs after.1 source.new) }
 {
-    let mut sight = sight;
-    let mut due = near(sight.window) & free;
-    let mut seen = due;
-    while due != 0 {
-        let place = lowest(due);
-        due = behind(due, place);
-        if decide_bit(source, tables, plane, corner, sight, place)? {
-            let more = following(place) & free;
-            due |= more;
-            seen |= more;
-            sight = decide_sign(source, tables, plane, corner, sight, place)?;
-        }
+    let due = near(sight.window) & free;
+    let mut word = Seeking {
+        sight,
+        due,
+        seen: due,
+    };
+    while word.due != 0 {
+        let place = lowest(word.due);
+        word = significance_place(source, tables, plane, corner, word, free, place)?;
     }
-    Ok((sight, seen))
+    Ok((word.sight, word.seen))
 }
 
 /// A refinement pass over a word (T.800 D.3.3), by its window, the significant places that weren't
@@ -69,7 +117,7 @@ pub(crate) fn refinement_word<S: Source>(
     requires high { corner.y < 1024 }
     requires first { corner.y % 4 ≡ 0 }
     ensures walk { (g : Cells) → BeforeRefinement plane g corner.x corner.y window places refined
-        → OnOk result (source.new ≡ (told S.ask (bits_scanned 2 plane corner.x corner.y 48 0 g) source.old).1) }
+        → OnOk result (source.new ≡ (told S.ask (word_pass 2 plane corner.x corner.y g) source.old).1) }
 {
     let near = beside(window) & !refined;
     let mut due = places;
@@ -130,7 +178,7 @@ pub(crate) fn cleanup_word<S: Source>(
     requires first { corner.y % 4 ≡ 0 }
     requires places { IsWord places }
     ensures walk { (g : Cells) → BeforeCleanup plane g corner.x corner.y sight.window sight.signs places
-        → IfOk result (λ after. EndsIn plane.causal corner.x corner.y (told S.ask (bits_scanned 0 plane corner.x corner.y 48 0 g) source.old) after.window after.signs source.new) }
+        → IfOk result (λ after. EndsIn plane.causal corner.x corner.y (told S.ask (word_pass 0 plane corner.x corner.y g) source.old) after.window after.signs source.new) }
 {
     let mut sight = sight;
     let mut due = places;

@@ -26,4 +26,6 @@ returns g c = record {
       sign_ends g.S.Source.ask k v c.args.corner.x c.args.corner.y c.args.sight.window c.args.sight.signs c.raised.result c.signed.result c.args.place row
       c.in_ok-negative.negative c.args.source.now c.ask.new.self s c.requires.place whole n r e u c.raised.ensures.place c.raised.ensures.others c.signed.ensures.place
       c.signed.ensures.others;
+  there = c.raised.ensures.place;
+  others = c.raised.ensures.others;
 }
