@@ -1,6 +1,6 @@
 -- Lists of words: a block as its words show it. Around the block stand words of 0: a stripe above it and one below, and a word to
 -- each side of a stripe.
-use Rattle.std.specs.Prelude.{ℕ, ◌≡◌, ◌+◌, ◌*◌, ◌/◌, ◌%◌, ◌<◌, Bool, ◌==◌, ◌&&◌, if◌then◌else◌, List, slice_index_or, replicate}
+use Rattle.std.specs.Prelude.{ℕ, ◌≡◌, ◌+◌, ◌*◌, ◌/◌, ◌%◌, ◌<◌, Bool, ◌==◌, ◌&&◌, if◌then◌else◌, List, length, slice_index_or, replicate}
 use Rattle.std.specs.Int.{bit_at}
 use Rattle.jx_tier1.specs.Places.{IsWord}
 
@@ -40,6 +40,12 @@ wide_for width = (width + 7) / 8 + 2
 
 abbrev pub count_for : ℕ → ℕ → ℕ
 count_for width height = ((height + 3) / 4 + 2) * wide_for width
+
+pub record HasLists (b : BlockWords) : Type 0 where
+  pub significant : length b.significant ≡ count_for b.width b.height
+  pub negative : length b.negative ≡ count_for b.width b.height
+  pub visited : length b.visited ≡ count_for b.width b.height
+  pub refined : length b.refined ≡ count_for b.width b.height
 
 abbrev pub blank : ℕ → ℕ → BlockWords
 blank width height = record {

@@ -2,7 +2,7 @@
 
 ghost use Rattle.std.specs.Prelude.{◌≡◌, ◌+◌, ◌-◌, ◌*◌, ◌/◌, ◌<◌, ◌≤◌, ℕ, length, slice_index_or, slice_set, if◌then◌else◌, IfOk};
 ghost use Rattle.std.specs.Int.{bit_at};
-ghost use Rattle.jx_tier1.specs.Blocks.{BlockWords, AreWords, Draws, Sees, seen_if, bit_in, wide_for, count_for, blank, place_in};
+ghost use Rattle.jx_tier1.specs.Blocks.{BlockWords, HasLists, AreWords, Draws, Sees, seen_if, bit_in, wide_for, count_for, blank, place_in};
 ghost use Rattle.jx_tier1.specs.Places.{IsWord, AreColumns};
 
 use crate::words::{columns, window};
@@ -159,7 +159,9 @@ impl BlockState {
         ensures at { result ≡ place_in (wide_for self.now.width) stripe group }
         ensures above { wide_for self.now.width + 1 ≤ result }
         ensures below { result + wide_for self.now.width + 1 < count_for self.now.width self.now.height }
+        ensures lists { HasLists self.now }
     {
+        let _ = &self.width;
         (usize::from(stripe) + 1) * self.wide() + usize::from(group) + 1
     }
 
@@ -189,7 +191,8 @@ impl BlockState {
     #[inline(always)]
     pub fn significant(&self, at: usize) -> u64
         requires { at < count_for self.now.width self.now.height }
-        ensures { result ≡ slice_index_or self.now.significant at 0 }
+        ensures value { result ≡ slice_index_or self.now.significant at 0 }
+        ensures word { IsWord result }
     {
         word_at(&self.significant, at)
     }
