@@ -27,6 +27,15 @@ three_less w i =
 pub nine_less : (w i : ℕ) → of_nine w i ≤ 1
 nine_less w i = three_le (of_three w i) (of_three w (i + 6)) (of_three w (i + 12)) (three_less w i) (three_less w (i + 6)) (three_less w (i + 12))
 
+four_le : (a b c d : ℕ) → a ≤ 1 → b ≤ 1 → c ≤ 1 → d ≤ 1 → max (max a b) (max c d) ≤ 1
+four_le a b c d p q r s = omega arith
+
+pub eight_less : (w i : ℕ) → of_eight w i ≤ 1
+eight_less w i =
+    let a = bit_at-lt w (i + 6) in
+    let b = bit_at-lt w (i + 8) in
+    four_le (of_three w i) (of_three w (i + 12)) (bit_at w (i + 6)) (bit_at w (i + 8)) (three_less w i) (three_less w (i + 12)) (omega arith) (omega arith)
+
 exactly_one : (n m : ℕ) → n ≤ 1 → 1 ≤ m → m ≤ n → n ≡ 1
 exactly_one n m a b c = omega arith
 

@@ -25,7 +25,7 @@ kind_is pass k g x y e = rw e refl
 bit_is : (p : ℕ) → 6 * (p / 6) + p % 6 ≡ p
 bit_is p = omega arith
 
-nine_at : (k : Plane) (g : Cells) (x y w i : ℕ) → Sees k.causal (mark g) x y w → y % 4 ≡ 0 → i < 48 → i % 6 < 4 → SeesNine g k.causal (x + i / 6) (y + i % 6) w i
+pub nine_at : (k : Plane) (g : Cells) (x y w i : ℕ) → Sees k.causal (mark g) x y w → y % 4 ≡ 0 → i < 48 → i % 6 < 4 → SeesNine g k.causal (x + i / 6) (y + i % 6) w i
 nine_at k g x y w i s f l m =
     subst (λ (p : ℕ). SeesNine g k.causal (x + i / 6) (y + i % 6) w p) (bit_is i) (sees_nine g k.causal x y w (i / 6) (i % 6) s f (omega arith) m)
 

@@ -4,7 +4,7 @@ use Rattle.std.specs.Int.{bit_at}
 use Rattle.jx_tier1_specs.specs.declared.coef.Coef.{Coef}
 use Rattle.jx_tier1_specs.specs.declared.question.Plane.{Plane}
 use Rattle.jx_tier1_specs.specs.Cells.{Cells, coef_at, significant}
-use Rattle.jx_tier1_specs.specs.Near.{one_if}
+use Rattle.jx_tier1_specs.specs.Near.{one_if, has_near}
 use Rattle.jx_tier1_specs.specs.Pass.{is_decided, is_refined}
 use Rattle.jx_tier1.specs.Blocks.{Sees}
 use Rattle.jx_tier1.specs.Marks.{mark}
@@ -66,6 +66,15 @@ pub record BeforeRefinement (k : Plane) (g : Cells) (x y w d m : ℕ) : Type 0 w
   pub window : Sees k.causal (mark g) x y w
   pub due : Picks (λ c. significant c && not (is_decided k c)) g x y d
   pub refined : (i : ℕ) → in_word g x y i ≡ true → bit_at d i ≡ 1 → bit_at m i ≡ one_if (is_refined k (coef_in g x y i))
+
+-- within the pass: a significant place that wasn't decided; a bit says whether it was refined before, another one whether it
+-- wasn't and a neighbour is significant
+pub record IsRefinable (k : Plane) (g : Cells) (x y n m i : ℕ) : Type 0 where
+  pub place : in_word g x y i ≡ true
+  pub marked : significant (coef_in g x y i) ≡ true
+  pub fresh : is_decided k (coef_in g x y i) ≡ false
+  pub refined : bit_at m i ≡ one_if (is_refined k (coef_in g x y i))
+  pub near : bit_at n i ≡ one_if (not (is_refined k (coef_in g x y i)) && has_near g k.causal (x + i / 6) (y + i % 6))
 
 -- before a cleanup pass: a word has the insignificant places that weren't decided (D.3.4)
 pub record BeforeCleanup (k : Plane) (g : Cells) (x y w v d : ℕ) : Type 0 where

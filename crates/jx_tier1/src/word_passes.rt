@@ -7,7 +7,7 @@ ghost use Rattle.jx_tier1_specs.specs.Asking.{told};
 ghost use Rattle.jx_tier1_specs.specs.Pass.{IsScan, zeroed, named_at, run_at};
 ghost use Rattle.jx_tier1.specs.Places.{IsWord};
 ghost use Rattle.jx_tier1.specs.Sights.{IsBit, EndsIn};
-ghost use Rattle.jx_tier1.specs.WordPasses.{Seeks, SeeksIn, BeforeSignificance, AfterSignificance, BeforeRefinement, BeforeCleanup};
+ghost use Rattle.jx_tier1.specs.WordPasses.{Seeks, SeeksIn, BeforeSignificance, AfterSignificance, IsRefinable, BeforeRefinement, BeforeCleanup};
 ghost use Rattle.jx_tier1.specs.WordScan.{pass_at_bit, word_pass};
 
 use crate::contexts::Tables;
@@ -100,6 +100,30 @@ pub(crate) fn significance_word<S: Source>(
     Ok((word.sight, word.seen))
 }
 
+/// Decides the next bit of a significant coefficient (T.800 D.3.3), by the places that were refined
+/// before and those that weren't and have a significant neighbour.
+#[inline(always)]
+fn refinement_place<S: Source>(
+    source: &mut S,
+    plane: Plane,
+    corner: Corner,
+    near: u64,
+    refined: u64,
+    place: u32,
+) -> Result<(), NoMemory>
+    requires scan { IsScan plane }
+    requires wide { corner.x < 1024 }
+    requires high { corner.y < 1024 }
+    requires place { place < 64 }
+    ensures { (g : Cells) → IsRefinable plane g corner.x corner.y near refined place
+        → OnOk result (source.new ≡ (told S.ask (pass_at_bit 2 plane g corner.x corner.y place) source.old).1) }
+{
+    let label = 14 + 2 * ((refined >> place) % 2) + (near >> place) % 2;
+    let about = About::Bit(corner.column(place), corner.row(place));
+    source.ask(asked(plane, label as u8, false, about))?;
+    Ok(())
+}
+
 /// A refinement pass over a word (T.800 D.3.3), by its window, the significant places that weren't
 /// decided in this plane, and the places that were refined before. After `NoMemory` the source is
 /// given up.
@@ -123,10 +147,8 @@ pub(crate) fn refinement_word<S: Source>(
     let mut due = places;
     while due != 0 {
         let place = lowest(due);
+        refinement_place(source, plane, corner, near, refined, place)?;
         due = behind(due, place);
-        let label = 14 + 2 * (refined >> place & 1) + (near >> place & 1);
-        let about = About::Bit(corner.column(place), corner.row(place));
-        source.ask(asked(plane, label as u8, false, about))?;
     }
     Ok(())
 }
