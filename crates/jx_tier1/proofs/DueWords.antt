@@ -163,3 +163,15 @@ bit_of_word w i s e = record {
 
 pub above : (a b : ℕ) → a ≡ 1 → a ≤ b → b ≤ 1 → b ≡ 1
 above a b e l m = omega arith
+
+pub less_behind : (d n p i : ℕ) → ((j : ℕ) → j ≤ p → bit_at n j ≡ 0) → ((j : ℕ) → p < j → bit_at n j ≡ bit_at d j) → bit_at n i ≤ bit_at d i
+less_behind d n p i before behind =
+    elim (cases_lt p i) [
+      | inl l ↦ let e = behind i l in omega arith
+      | inr l ↦ let e = before i l in omega arith
+    ]
+
+pub some_bit : (n i : ℕ) → (bit_at n i ≡ 0 → ⊥) → bit_at n i ≡ 1
+some_bit n i h =
+    let a = bit_le n i in
+    elim (cases_eq (bit_at n i) 0) [ inl e ↦ absurd (h e) | inr e ↦ omega arith ]

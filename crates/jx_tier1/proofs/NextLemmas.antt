@@ -94,7 +94,7 @@ one_more w v f p i j a b e =
 at_index : (v i j : ℕ) → bit_at v j ≡ 1 → i ≡ j → bit_at v i ≡ 1
 at_index v i j e f = ap (λ (n : ℕ). bit_at v n) f ∙ e
 
-same_nine : (w v i p : ℕ) → ((j : ℕ) → j ≢ p + 7 → bit_at v j ≡ bit_at w j) → p < i → i ≢ p + 1 → i ≢ p + 5 → i ≢ p + 6 → i ≢ p + 7 → of_nine v i ≡ of_nine w i
+pub same_nine : (w v i p : ℕ) → ((j : ℕ) → j ≢ p + 7 → bit_at v j ≡ bit_at w j) → p < i → i ≢ p + 1 → i ≢ p + 5 → i ≢ p + 6 → i ≢ p + 7 → of_nine v i ≡ of_nine w i
 same_nine w v i p h l a b c d =
     rw (
       h i d,

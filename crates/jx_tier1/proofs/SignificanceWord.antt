@@ -72,7 +72,7 @@ flag_le : (b : Bool) → one_if b ≤ 1
 flag_le true = omega arith
 flag_le false = omega arith
 
-own_none : (k : Plane) (g : Cells) (x y w i : ℕ) → Sees k.causal (mark g) x y w → i < 48 → IsPlaceOf g x y i → significant (coef_in g x y i) ≡ false
+pub own_none : (k : Plane) (g : Cells) (x y w i : ℕ) → Sees k.causal (mark g) x y w → i < 48 → IsPlaceOf g x y i → significant (coef_in g x y i) ≡ false
     → bit_at w (i + 6 + 1) ≡ 0
 own_none k g x y w i s l p a =
     let c : ℕ = i / 6 in

@@ -63,7 +63,7 @@ second_false : (a b : Bool) → (a && (false && b)) ≡ false
 second_false true b = refl
 second_false false b = refl
 
-no_row : (g : Cells) (x y p : ℕ) → g.height ≤ y + p % 6 → has_place g x y p ≡ false
+pub no_row : (g : Cells) (x y p : ℕ) → g.height ≤ y + p % 6 → has_place g x y p ≡ false
 no_row g x y p l = rw (le-ltb (y + p % 6) g.height l) (and_false (nat_lt (p % 6) 4) (nat_lt (x + p / 6) g.width))
 
 no_gap : (g : Cells) (x y p : ℕ) → 4 ≤ p % 6 → has_place g x y p ≡ false
