@@ -1,19 +1,15 @@
 -- What a cleanup pass asks at the bits of a word.
-use Rattle.std.proofs.Common.{◌≡◌, ◌≢◌, ◌<◌, ◌≤◌, ◌+◌, ◌-◌, ◌*◌, ◌/◌, ◌%◌, ◌==◌, ◌&&◌, ◌||◌, ℕ, zero, suc, min, max, Bool, true, false, not, refl, sym, ap, ◌∙◌, arith, subst, inl, inr, if◌then◌else◌}
+use Rattle.std.proofs.Common.{◌≡◌, ◌<◌, ◌≤◌, ◌+◌, ◌-◌, ◌/◌, ◌%◌, ◌==◌, ◌&&◌, ◌||◌, ℕ, min, Bool, true, false, not, refl, sym, ap, ◌∙◌, arith, inl, inr, if◌then◌else◌}
 use Rattle.std.specs.Prelude.{nat_lt, nat_le}
 use Rattle.std.specs.Int.{bit_at}
-use Rattle.std.proofs.lemmas.Bool.{cases_eq, cases_lt, cases_Bool, eq-eqb, ne_eqb, lt-ltb, le-leb, true≢false}
+use Rattle.std.proofs.lemmas.Bool.{cases_eq, cases_lt, cases_Bool, eq-eqb, ne_eqb, le-leb}
 use Rattle.std.proofs.lemmas.Bool.Decides.{nat_tests}
-use Rattle.jx_tier1_specs.specs.declared.coef.Coef.{Coef}
 use Rattle.jx_tier1_specs.specs.declared.question.Plane.{Plane}
-use Rattle.jx_tier1_specs.specs.Cells.{Cells, coef_at, significant}
+use Rattle.jx_tier1_specs.specs.Cells.{Cells, significant}
 use Rattle.jx_tier1_specs.specs.Near.{one_if}
-use Rattle.jx_tier1_specs.specs.Asking.{Asking, Told}
-use Rattle.jx_tier1_specs.specs.Pass.{is_decided, label_at, is_quiet, is_run, bit_of, run_at, usual_at, cleanup_at, pass_at}
-use Rattle.jx_tier1.specs.Blocks.{Sees}
-use Rattle.jx_tier1.specs.Marks.{mark}
-use Rattle.jx_tier1.specs.Places.{of_nine, of_eight}
-use Rattle.jx_tier1.specs.Sights.{IsBit}
+use Rattle.jx_tier1_specs.specs.Asking.{Told}
+use Rattle.jx_tier1_specs.specs.Pass.{is_decided, label_at, is_quiet, is_run, bit_of, run_at, usual_at}
+use Rattle.jx_tier1.specs.Places.{of_nine}
 use Rattle.jx_tier1.specs.WordPasses.{Cleans, coef_in, in_word, quiet_bit, four_quiet}
 use Rattle.jx_tier1.specs.WordScan.{has_place, pass_at_bit}
 use Rattle.jx_tier1.proofs.DueWords.{IsPlaceOf, place_of, no_place, some_place}

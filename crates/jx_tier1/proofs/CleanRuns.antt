@@ -1,26 +1,25 @@
 -- A cleanup pass at a column in run mode: what it leaves in a word.
-use Rattle.std.proofs.Common.{◌≡◌, ◌≢◌, ◌<◌, ◌≤◌, ◌+◌, ◌-◌, ◌*◌, ◌/◌, ◌%◌, ◌==◌, ◌&&◌, ◌||◌, ℕ, zero, suc, min, max, Bool, true, false, not, refl, sym, ap, ◌∙◌, arith, subst, inl, inr, length, if◌then◌else◌}
+use Rattle.std.proofs.Common.{◌≡◌, ◌≢◌, ◌<◌, ◌≤◌, ◌+◌, ◌*◌, ◌/◌, ◌%◌, ℕ, zero, suc, Bool, true, false, refl, sym, ap, ◌∙◌, arith, subst, inl, inr, length}
 use Rattle.std.specs.Int.{bit_at}
-use Rattle.std.proofs.lemmas.Bool.{cases_eq, cases_lt, eq-eqb}
+use Rattle.std.proofs.lemmas.Bool.{cases_eq, cases_lt}
 use Rattle.std.proofs.lemmas.List.{get_or-set_same, get_or-set_other, length-set}
 use Rattle.jx_tier1_specs.specs.declared.coef.Coef.{Coef}
 use Rattle.jx_tier1_specs.specs.declared.question.Plane.{Plane}
 use Rattle.jx_tier1_specs.specs.declared.question.Question.{Question}
-use Rattle.jx_tier1_specs.specs.Cells.{Cells, zero_coef, coef_at, with_coef, significant}
+use Rattle.jx_tier1_specs.specs.Cells.{Cells, zero_coef, coef_at, with_coef}
 use Rattle.jx_tier1_specs.specs.Asking.{Asking, told}
 use Rattle.jx_tier1_specs.specs.Pass.{sign_question, sign_of, with_bit, with_sign, changed, is_decided, is_run, zeroed, named_at, run_at}
 use Rattle.jx_tier1_specs.proofs.RunBackLemmas.{is_one}
-use Rattle.jx_tier1.specs.Places.{of_nine}
 use Rattle.jx_tier1.specs.Sights.{IsSight, IsPlaceIn, EndsIn}
 use Rattle.jx_tier1.specs.Walking.{IsNow}
-use Rattle.jx_tier1.specs.WordPasses.{Cleans, CleansIn, coef_in, in_word}
+use Rattle.jx_tier1.specs.WordPasses.{Cleans, CleansIn}
 use Rattle.jx_tier1.specs.WordScan.{pass_at_bit}
-use Rattle.jx_tier1.proofs.CleanLemmas.{IsLeftAt, is_left, run_bit}
+use Rattle.jx_tier1.proofs.CleanLemmas.{is_left, run_bit}
 use Rattle.jx_tier1.proofs.CleanSteps.{IsLater, cleans_next, runs_same, runs_raised}
 use Rattle.jx_tier1.proofs.DueWords.{IsPlaceOf, place_of, decided_next}
 use Rattle.jx_tier1.proofs.MarkLemmas.{IsWholeAt, same_place, index_below}
 use Rattle.jx_tier1.proofs.SeekLemmas.{sight_kept}
-use Rattle.jx_tier1.proofs.WordAfter.{bit_after, whole_at, neat_at}
+use Rattle.jx_tier1.proofs.WordAfter.{bit_after}
 
 -- a change of another place
 other_coef : (g : Cells) (x y a b : ℕ) (coef : Coef) → x < g.width → a < g.width → (a ≡ x → b ≡ y → ⊥) → coef_at (with_coef g x y coef) a b ≡ coef_at g a b

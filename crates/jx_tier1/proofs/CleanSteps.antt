@@ -1,7 +1,7 @@
 -- A cleanup pass at a place that is left: what it leaves in a word.
-use Rattle.std.proofs.Common.{◌≡◌, ◌≢◌, ◌<◌, ◌≤◌, ◌+◌, ◌-◌, ◌*◌, ◌/◌, ◌%◌, ◌==◌, ◌&&◌, ◌||◌, ℕ, zero, suc, min, max, Bool, true, false, not, refl, sym, ap, ◌∙◌, arith, subst, inl, inr, length, if◌then◌else◌}
+use Rattle.std.proofs.Common.{◌≡◌, ◌≢◌, ◌<◌, ◌≤◌, ◌+◌, ◌/◌, ◌%◌, ◌||◌, ℕ, Bool, true, false, not, refl, sym, ap, ◌∙◌, arith, subst, inl, inr}
 use Rattle.std.specs.Int.{bit_at}
-use Rattle.std.proofs.lemmas.Bool.{cases_eq, cases_lt, eq-eqb}
+use Rattle.std.proofs.lemmas.Bool.{cases_eq, cases_lt}
 use Rattle.jx_tier1_specs.specs.declared.coef.Coef.{Coef}
 use Rattle.jx_tier1_specs.specs.declared.question.Plane.{Plane}
 use Rattle.jx_tier1_specs.specs.declared.question.Question.{Question}
@@ -11,14 +11,13 @@ use Rattle.jx_tier1_specs.specs.Near.{one_if}
 use Rattle.jx_tier1_specs.specs.Asking.{Asking, told}
 use Rattle.jx_tier1_specs.specs.Pass.{question, label_at, sign_question, shift_of, sign_of, bit_of, with_bit, with_sign, changed, is_decided}
 use Rattle.jx_tier1.specs.Places.{of_nine}
-use Rattle.jx_tier1.specs.Sights.{IsSight, IsBit, IsPlaceIn, EndsIn}
+use Rattle.jx_tier1.specs.Sights.{IsSight, IsPlaceIn, EndsIn}
 use Rattle.jx_tier1.specs.Walking.{IsNow}
 use Rattle.jx_tier1.specs.WordPasses.{Cleans, CleansIn, coef_in, in_word, quiet_bit, four_quiet}
 use Rattle.jx_tier1.specs.WordScan.{pass_at_bit}
-use Rattle.jx_tier1.proofs.CleanLemmas.{IsLeftAt, is_left, usual_bit}
-use Rattle.jx_tier1.proofs.DueWords.{IsPlaceOf, place_of, coef_other, decided_next}
-use Rattle.jx_tier1.proofs.MarkLemmas.{IsWholeAt}
-use Rattle.jx_tier1.proofs.NextLemmas.{by_second, same_nine, nine_less}
+use Rattle.jx_tier1.proofs.CleanLemmas.{is_left, usual_bit}
+use Rattle.jx_tier1.proofs.DueWords.{IsPlaceOf, place_of, coef_other}
+use Rattle.jx_tier1.proofs.NextLemmas.{by_second, same_nine}
 use Rattle.jx_tier1.proofs.SeekLemmas.{sight_kept}
 use Rattle.jx_tier1.proofs.ToldLemmas.{one_told, none_told}
 use Rattle.jx_tier1.proofs.WordAfter.{bit_after, whole_at, neat_at}

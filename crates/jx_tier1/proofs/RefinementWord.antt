@@ -1,5 +1,5 @@
 -- A refinement pass over the places of a word.
-use Rattle.std.proofs.Common.{◌≡◌, ◌≢◌, ◌<◌, ◌≤◌, ◌+◌, ◌-◌, ◌*◌, ◌/◌, ◌%◌, ◌^◌, ◌==◌, ◌&&◌, ℕ, zero, suc, min, Bool, true, false, not, refl, sym, ap, ◌∙◌, arith, subst, inl, inr}
+use Rattle.std.proofs.Common.{◌≡◌, ◌<◌, ◌≤◌, ◌+◌, ◌-◌, ◌*◌, ◌/◌, ◌%◌, ◌^◌, ◌==◌, ◌&&◌, ℕ, min, Bool, true, false, not, refl, sym, ap, ◌∙◌, arith, subst, inl, inr}
 use Rattle.std.specs.Int.{bit_at}
 use Rattle.std.proofs.lemmas.Bool.{cases_eq, cases_lt, cases_Bool, eq-eqb, ne_eqb, eqb-true, true≢false}
 use Rattle.std.proofs.lemmas.Nat.{pow_pos}
@@ -11,18 +11,17 @@ use Rattle.jx_tier1_specs.specs.declared.question.About.TheVariants.{Bit}
 use Rattle.jx_tier1_specs.specs.Cells.{Cells, coef_at, with_coef, significant}
 use Rattle.jx_tier1_specs.specs.Labels.{refinement_row}
 use Rattle.jx_tier1_specs.specs.Near.{one_if, has_near}
-use Rattle.jx_tier1_specs.specs.Asking.{Asking, Told, and_then, told}
-use Rattle.jx_tier1_specs.specs.Pass.{is_decided, is_refined, with_bit, changed, question, shift_of, pass_at, refinement_at, refinement_label_at}
-use Rattle.jx_tier1_specs.proofs.Told.{told_then}
+use Rattle.jx_tier1_specs.specs.Asking.{Asking, Told, told}
+use Rattle.jx_tier1_specs.specs.Pass.{is_decided, is_refined, with_bit, changed, question, shift_of, refinement_at, refinement_label_at}
 use Rattle.jx_tier1.specs.Blocks.{Sees}
-use Rattle.jx_tier1.specs.Marks.{mark, minus}
+use Rattle.jx_tier1.specs.Marks.{mark}
 use Rattle.jx_tier1.specs.Places.{of_eight}
 use Rattle.jx_tier1.specs.Walking.{IsNow}
-use Rattle.jx_tier1.specs.WordPasses.{Picks, BeforeRefinement, IsRefinable, coef_in, in_word}
-use Rattle.jx_tier1.specs.WordScan.{pass_at_bit, has_place, bits_scanned, word_pass}
-use Rattle.jx_tier1.proofs.ChangeSight.{sees_kept, minus_kept}
-use Rattle.jx_tier1.proofs.DueWords.{IsPlaceOf, place_of, no_place, some_place, coef_other, coef_same}
-use Rattle.jx_tier1.proofs.MarkLemmas.{IsWholeAt, mark_kept}
+use Rattle.jx_tier1.specs.WordPasses.{BeforeRefinement, IsRefinable, coef_in, in_word}
+use Rattle.jx_tier1.specs.WordScan.{pass_at_bit, bits_scanned, word_pass}
+use Rattle.jx_tier1.proofs.ChangeSight.{sees_kept}
+use Rattle.jx_tier1.proofs.DueWords.{place_of, no_place, some_place, coef_other}
+use Rattle.jx_tier1.proofs.MarkLemmas.{mark_kept}
 use Rattle.jx_tier1.proofs.NextLemmas.{eight_less}
 use Rattle.jx_tier1.proofs.RefineLemmas.{refinement_unmarked, refinement_done, refinement_told}
 use Rattle.jx_tier1.proofs.SightLemmas.{near_seen}

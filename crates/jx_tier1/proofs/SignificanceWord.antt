@@ -1,12 +1,12 @@
 -- What a significance pass asks at the bits of a word.
-use Rattle.std.proofs.Common.{◌≡◌, ◌≢◌, ◌<◌, ◌≤◌, ◌+◌, ◌-◌, ◌*◌, ◌/◌, ◌%◌, ◌==◌, ℕ, zero, suc, min, max, Bool, true, false, not, refl, sym, ap, ◌∙◌, arith, subst, inl, inr}
+use Rattle.std.proofs.Common.{◌≡◌, ◌<◌, ◌≤◌, ◌+◌, ◌*◌, ◌/◌, ◌%◌, ℕ, min, Bool, true, false, not, refl, sym, ap, ◌∙◌, arith, subst, inl, inr}
 use Rattle.std.specs.Int.{bit_at}
 use Rattle.std.proofs.lemmas.Bool.{cases_Bool}
 use Rattle.jx_tier1_specs.specs.declared.question.Plane.{Plane}
-use Rattle.jx_tier1_specs.specs.Cells.{Cells, coef_at, significant}
-use Rattle.jx_tier1_specs.specs.Near.{one_if, one_at}
-use Rattle.jx_tier1_specs.specs.Asking.{Asking, Told}
-use Rattle.jx_tier1_specs.specs.Pass.{pass_at, significance_at, bit_of, label_at, is_decided}
+use Rattle.jx_tier1_specs.specs.Cells.{Cells, significant}
+use Rattle.jx_tier1_specs.specs.Near.{one_if}
+use Rattle.jx_tier1_specs.specs.Asking.{Told}
+use Rattle.jx_tier1_specs.specs.Pass.{pass_at, significance_at, bit_of}
 use Rattle.jx_tier1.specs.Blocks.{Sees}
 use Rattle.jx_tier1.specs.Marks.{mark}
 use Rattle.jx_tier1.specs.Places.{of_nine, of_eight}

@@ -1,5 +1,4 @@
-use Rattle.std.proofs.Common.{ℕ, false, ◌≡◌, ◌≤◌, ◌<◌, ◌+◌, ◌/◌, ◌%◌, arith, sym, subst}
-use Rattle.std.specs.Int.{bit_at}
+use Rattle.std.proofs.Common.{ℕ, false, ◌≡◌, ◌<◌, ◌+◌, ◌/◌, ◌%◌, arith, sym, subst}
 use Rattle.jx_tier1_specs.specs.Cells.{coef_at}
 use Rattle.jx_tier1_specs.specs.Asking.{told}
 use Rattle.jx_tier1_specs.specs.Pass.{sign_of}

@@ -1,5 +1,4 @@
-use Rattle.std.proofs.Common.{ℕ, ◌≡◌, ◌≤◌, ◌<◌, ◌+◌, ◌/◌, ◌%◌, arith}
-use Rattle.std.specs.Int.{bit_at}
+use Rattle.std.proofs.Common.{ℕ, ◌+◌}
 use Rattle.jx_tier1.proofs.CleanSteps.{clean_zero, clean_one, left_place, left_neat}
 use Rattle.jx_tier1.proofs.DueWords.{less_behind}
 use Rattle.jx_tier1.proofs.word_passes.cleanup_usual.Goals as goal

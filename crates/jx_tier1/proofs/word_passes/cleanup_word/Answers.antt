@@ -1,4 +1,4 @@
-use Rattle.std.proofs.Common.{ℕ, ◌≡◌, ◌≤◌, ◌<◌, ◌+◌, ◌-◌, ◌%◌, ◌∙◌, min, ap, arith, bit_and, w64}
+use Rattle.std.proofs.Common.{ℕ, ◌-◌, ◌∙◌, min, ap, arith, bit_and, w64}
 use Rattle.std.specs.Int.{bit_at}
 use Rattle.std.proofs.lemmas.Nat.Bits.{bit_at_and, bit_at_not}
 use Rattle.jx_tier1.proofs.CleanWord.{cleaned_none, cleaned_next, cleaned_all, four_of, run_row}

@@ -1,4 +1,4 @@
-use Rattle.std.proofs.Common.{◌<◌, ◌-◌, ◌^◌, ℕ, w64}
+use Rattle.std.proofs.Common.{◌<◌, ◌-◌, ◌^◌, w64}
 use Rattle.std.specs.Int.{trailing_zeros}
 use Rattle.jx_tier1_specs.specs.Cells.{Cells}
 use Rattle.jx_tier1.specs.WordPasses.{BeforeRefinement}
