@@ -1,5 +1,5 @@
 -- Windows after a change of one place.
-use Rattle.std.proofs.Common.{◌≡◌, ◌≢◌, ◌<◌, ◌≤◌, ◌+◌, ◌-◌, ◌*◌, ◌/◌, ◌%◌, ◌^◌, ◌==◌, ◌&&◌, ℕ, zero, suc, max, Bool, true, false, refl, sym, ap, ◌∙◌, arith, subst, inl, inr, if◌then◌else◌}
+use Rattle.std.proofs.Common.{◌≡◌, ◌≢◌, ◌<◌, ◌+◌, ◌*◌, ◌/◌, ℕ, Bool, true, refl, sym, ap, ◌∙◌, arith, subst, inl, inr}
 use Rattle.std.specs.Int.{bit_at}
 use Rattle.std.proofs.lemmas.Bool.{cases_eq, cases_Bool}
 use Rattle.std.proofs.lemmas.List.{get_or-set_same}
@@ -9,7 +9,7 @@ use Rattle.jx_tier1_specs.specs.Near.{one_if}
 use Rattle.jx_tier1.specs.Blocks.{seen_if, Sees}
 use Rattle.jx_tier1.specs.Marks.{mark, minus, is_outside}
 use Rattle.jx_tier1.proofs.BitLemmas.{bit_shr}
-use Rattle.jx_tier1.proofs.MarkLemmas.{IsInside, IsWholeAt, inside_not, not_inside, elsewhere, back, index_below, mark_other, mark_here, mark_kept}
+use Rattle.jx_tier1.proofs.MarkLemmas.{IsInside, IsWholeAt, not_inside, elsewhere, back, index_below, mark_other, mark_here}
 use Rattle.jx_tier1.proofs.SightLemmas.{shown, not_five}
 use Rattle.jx_tier1.proofs.SignSight.{minus_in}
 

@@ -1,14 +1,14 @@
 -- What is due in a word, as a significance pass goes through it.
-use Rattle.std.proofs.Common.{◌≡◌, ◌≢◌, ◌<◌, ◌≤◌, ◌+◌, ◌-◌, ◌*◌, ◌/◌, ◌%◌, ◌^◌, ◌==◌, ◌&&◌, ℕ, zero, suc, min, max, Bool, true, false, not, refl, sym, ap, ◌∙◌, arith, subst, inl, inr, if◌then◌else◌}
+use Rattle.std.proofs.Common.{◌≡◌, ◌≢◌, ◌<◌, ◌≤◌, ◌+◌, ◌*◌, ◌/◌, ◌%◌, ◌&&◌, ℕ, min, max, Bool, true, false, not, sym, ap, ◌∙◌, arith, inl, inr}
 use Rattle.std.specs.Prelude.{nat_lt}
 use Rattle.std.specs.Int.{bit_at}
-use Rattle.std.proofs.lemmas.Bool.{cases_eq, cases_lt, cases_Bool, lt-ltb, le-ltb}
+use Rattle.std.proofs.lemmas.Bool.{cases_eq, cases_lt, lt-ltb}
 use Rattle.std.proofs.lemmas.Bool.Decides.{nat_tests}
 use Rattle.std.proofs.lemmas.List.{get_or-set_same, get_or-set_other}
 use Rattle.std.proofs.lemmas.Nat.Bits.{bit_at-lt}
 use Rattle.jx_tier1_specs.specs.declared.coef.Coef.{Coef}
 use Rattle.jx_tier1_specs.specs.declared.question.Plane.{Plane}
-use Rattle.jx_tier1_specs.specs.Cells.{Cells, zero_coef, coef_at, with_coef, significant}
+use Rattle.jx_tier1_specs.specs.Cells.{Cells, zero_coef, with_coef, significant}
 use Rattle.jx_tier1_specs.specs.Near.{one_if}
 use Rattle.jx_tier1_specs.specs.Pass.{is_decided}
 use Rattle.jx_tier1.specs.Places.{IsWord, of_nine}
@@ -163,3 +163,15 @@ bit_of_word w i s e = record {
 
 pub above : (a b : ℕ) → a ≡ 1 → a ≤ b → b ≤ 1 → b ≡ 1
 above a b e l m = omega arith
+
+pub less_behind : (d n p i : ℕ) → ((j : ℕ) → j ≤ p → bit_at n j ≡ 0) → ((j : ℕ) → p < j → bit_at n j ≡ bit_at d j) → bit_at n i ≤ bit_at d i
+less_behind d n p i before behind =
+    elim (cases_lt p i) [
+      | inl l ↦ let e = behind i l in omega arith
+      | inr l ↦ let e = before i l in omega arith
+    ]
+
+pub some_bit : (n i : ℕ) → (bit_at n i ≡ 0 → ⊥) → bit_at n i ≡ 1
+some_bit n i h =
+    let a = bit_le n i in
+    elim (cases_eq (bit_at n i) 0) [ inl e ↦ absurd (h e) | inr e ↦ omega arith ]

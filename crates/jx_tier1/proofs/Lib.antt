@@ -4,6 +4,10 @@ mod BesideLemmas
 mod BesideRuns
 mod BitLemmas
 mod ChangeSight
+mod CleanLemmas
+mod CleanRuns
+mod CleanSteps
+mod CleanWord
 mod CoefNotes
 mod ColumnLemmas
 mod ComingLemmas
@@ -33,11 +37,15 @@ mod RaiseLemmas
 mod ReadingLemmas
 mod RecodeLemmas
 mod RefineLemmas
+mod RefinementWord
 mod RowLemmas
+mod RunColumns
 mod RunLemmas
 mod RunTold
 mod RunWalked
 mod ScanLemmas
+mod SeekLemmas
+mod SeekWord
 mod SeenRows
 mod ShowLemmas
 mod SightLemmas
@@ -53,4 +61,6 @@ mod TreeLemmas
 mod TurnLemmas
 mod WalkLemmas
 mod WindowLemmas
+mod WordAfter
+mod WordReach
 mod WordScanLemmas

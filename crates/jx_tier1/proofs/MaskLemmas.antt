@@ -1,14 +1,14 @@
 -- Words with a bit more, and words without their first bits.
-use Rattle.std.proofs.Common.{◌≡◌, ◌<◌, ◌≤◌, ◌+◌, ◌-◌, ◌*◌, ◌/◌, ◌%◌, ◌^◌, ◌==◌, ℕ, zero, suc, min, max, Bool, true, false, refl, sym, ap, ◌∙◌, arith, inl, inr}
+use Rattle.std.proofs.Common.{◌≡◌, ◌<◌, ◌≤◌, ◌+◌, ◌-◌, ◌*◌, ◌%◌, ◌^◌, ℕ, zero, suc, min, max, Bool, true, false, refl, sym, ap, ◌∙◌, arith, inl, inr}
 use Rattle.std.specs.Prelude.{◌≢◌}
 use Rattle.std.specs.Int.{bit_at}
 use Rattle.std.specs.Int.Bits.{bit_and, bit_or}
-use Rattle.std.proofs.lemmas.Bool.{cases_eq, cases_lt, eqb-true}
+use Rattle.std.proofs.lemmas.Bool.{cases_lt}
 use Rattle.std.proofs.lemmas.Nat.Bits.{bit_at-lt, bit_at_above, bit_at_mask_inside, bit_at-pow_same, bit_at-pow_other, bit_at-zero}
 use Rattle.std.proofs.Math.Nat.{mod-lt}
 use mir.Val.{bool_byte}
 use Rattle.jx_tier1_specs.specs.Near.{one_if}
-use Rattle.jx_tier1.proofs.BitLemmas.{bit_shl, bit_shl_low, or_bit, and_bit, below_all}
+use Rattle.jx_tier1.proofs.BitLemmas.{bit_shl, bit_shl_low, or_bit, and_bit}
 
 -- the places behind one
 pub mask_before : (place i : ℕ) → place < 64 → i ≤ place → bit_at (18446744073709551614 * 2 ^ place % 18446744073709551616) i ≡ 0

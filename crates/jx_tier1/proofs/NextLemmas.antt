@@ -1,5 +1,5 @@
 -- What a place that becomes significant changes for those behind it.
-use Rattle.std.proofs.Common.{◌≡◌, ◌≢◌, ◌<◌, ◌≤◌, ◌+◌, ◌*◌, ◌/◌, ◌%◌, ◌^◌, ℕ, max, refl, sym, ap, ◌∙◌, arith, inl, inr}
+use Rattle.std.proofs.Common.{◌≡◌, ◌≢◌, ◌<◌, ◌≤◌, ◌+◌, ℕ, max, refl, sym, ap, ◌∙◌, arith, inl, inr}
 use Rattle.std.specs.Int.{bit_at}
 use Rattle.std.proofs.lemmas.Bool.{cases_eq}
 use Rattle.std.proofs.lemmas.Nat.Bits.{bit_at-lt}
@@ -26,6 +26,15 @@ three_less w i =
 
 pub nine_less : (w i : ℕ) → of_nine w i ≤ 1
 nine_less w i = three_le (of_three w i) (of_three w (i + 6)) (of_three w (i + 12)) (three_less w i) (three_less w (i + 6)) (three_less w (i + 12))
+
+four_le : (a b c d : ℕ) → a ≤ 1 → b ≤ 1 → c ≤ 1 → d ≤ 1 → max (max a b) (max c d) ≤ 1
+four_le a b c d p q r s = omega arith
+
+pub eight_less : (w i : ℕ) → of_eight w i ≤ 1
+eight_less w i =
+    let a = bit_at-lt w (i + 6) in
+    let b = bit_at-lt w (i + 8) in
+    four_le (of_three w i) (of_three w (i + 12)) (bit_at w (i + 6)) (bit_at w (i + 8)) (three_less w i) (three_less w (i + 12)) (omega arith) (omega arith)
 
 exactly_one : (n m : ℕ) → n ≤ 1 → 1 ≤ m → m ≤ n → n ≡ 1
 exactly_one n m a b c = omega arith
@@ -85,7 +94,7 @@ one_more w v f p i j a b e =
 at_index : (v i j : ℕ) → bit_at v j ≡ 1 → i ≡ j → bit_at v i ≡ 1
 at_index v i j e f = ap (λ (n : ℕ). bit_at v n) f ∙ e
 
-same_nine : (w v i p : ℕ) → ((j : ℕ) → j ≢ p + 7 → bit_at v j ≡ bit_at w j) → p < i → i ≢ p + 1 → i ≢ p + 5 → i ≢ p + 6 → i ≢ p + 7 → of_nine v i ≡ of_nine w i
+pub same_nine : (w v i p : ℕ) → ((j : ℕ) → j ≢ p + 7 → bit_at v j ≡ bit_at w j) → p < i → i ≢ p + 1 → i ≢ p + 5 → i ≢ p + 6 → i ≢ p + 7 → of_nine v i ≡ of_nine w i
 same_nine w v i p h l a b c d =
     rw (
       h i d,

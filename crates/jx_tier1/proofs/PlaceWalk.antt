@@ -1,5 +1,5 @@
 -- A decision at a place of a word.
-use Rattle.std.proofs.Common.{◌≡◌, ◌≢◌, ◌<◌, ◌≤◌, ◌+◌, ◌-◌, ◌*◌, ◌/◌, ◌%◌, ◌^◌, ◌==◌, ℕ, max, Bool, true, false, not, refl, sym, ap, ◌∙◌, arith, subst}
+use Rattle.std.proofs.Common.{◌≡◌, ◌≢◌, ◌<◌, ◌+◌, ◌*◌, ◌/◌, ◌%◌, ◌^◌, ℕ, max, Bool, true, false, not, sym, ap, ◌∙◌, arith, subst}
 use Rattle.std.specs.Int.{bit_at}
 use Rattle.std.proofs.lemmas.Bool.{ne_eqb}
 use Rattle.std.proofs.lemmas.Nat.{pow_pos}
@@ -7,13 +7,13 @@ use Rattle.jx_tier1_specs.specs.declared.coef.Coef.{Coef}
 use Rattle.jx_tier1_specs.specs.declared.question.Plane.{Plane}
 use Rattle.jx_tier1_specs.specs.declared.question.Question.{Question}
 use Rattle.jx_tier1_specs.specs.declared.question.About.TheVariants.{Sign}
-use Rattle.jx_tier1_specs.specs.Cells.{Cells, coef_at, with_coef, significant}
+use Rattle.jx_tier1_specs.specs.Cells.{Cells, coef_at, significant}
 use Rattle.jx_tier1_specs.specs.Labels.{sign_row}
 use Rattle.jx_tier1_specs.specs.Near.{one_if, across_of, down_of}
 use Rattle.jx_tier1_specs.specs.Asking.{told}
 use Rattle.jx_tier1_specs.specs.Pass.{shift_of, with_sign, question, sign_of, changed}
-use Rattle.jx_tier1.specs.Blocks.{Sees, seen_if}
-use Rattle.jx_tier1.specs.Marks.{mark, minus}
+use Rattle.jx_tier1.specs.Blocks.{Sees}
+use Rattle.jx_tier1.specs.Marks.{minus}
 use Rattle.jx_tier1.specs.Sights.{IsSight, EndsIn, IsBit}
 use Rattle.jx_tier1.proofs.BitLemmas.{bit_shr}
 use Rattle.jx_tier1.proofs.ChangeSight.{sees_raised, sees_signed, minus_there}

@@ -1,20 +1,18 @@
 -- A significance pass at a place that is due, and over the places of a word.
-use Rattle.std.proofs.Common.{◌≡◌, ◌≢◌, ◌<◌, ◌≤◌, ◌+◌, ◌-◌, ◌*◌, ◌/◌, ◌%◌, ◌==◌, ℕ, zero, suc, min, max, Bool, true, false, not, refl, sym, ap, ◌∙◌, arith, subst, inl, inr}
+use Rattle.std.proofs.Common.{◌≡◌, ◌<◌, ◌≤◌, ◌+◌, ◌/◌, ◌%◌, ℕ, min, max, Bool, true, false, refl, sym, ap, ◌∙◌, arith, subst}
 use Rattle.std.specs.Int.{bit_at}
-use Rattle.std.proofs.lemmas.Bool.{cases_eq, cases_lt}
 use Rattle.jx_tier1_specs.specs.declared.coef.Coef.{Coef}
 use Rattle.jx_tier1_specs.specs.declared.question.Plane.{Plane}
 use Rattle.jx_tier1_specs.specs.declared.question.Question.{Question}
 use Rattle.jx_tier1_specs.specs.declared.question.About.TheVariants.{Bit}
 use Rattle.jx_tier1_specs.specs.Cells.{Cells, coef_at, with_coef, significant}
-use Rattle.jx_tier1_specs.specs.Near.{one_if}
-use Rattle.jx_tier1_specs.specs.Asking.{Asking, Told, told}
-use Rattle.jx_tier1_specs.specs.Pass.{question, label_at, sign_question, shift_of, sign_of, bit_of, with_bit, with_sign, changed, pass_at}
+use Rattle.jx_tier1_specs.specs.Asking.{Asking, told}
+use Rattle.jx_tier1_specs.specs.Pass.{question, label_at, sign_question, shift_of, sign_of, bit_of, with_bit, with_sign, changed}
 use Rattle.jx_tier1.specs.Marks.{mark, minus}
 use Rattle.jx_tier1.specs.Sights.{IsSight, IsBit, IsPlaceIn, EndsIn}
 use Rattle.jx_tier1.specs.Walking.{IsNow}
-use Rattle.jx_tier1.specs.WordPasses.{IsDue, Seeks, SeeksIn, coef_in}
-use Rattle.jx_tier1.specs.WordScan.{pass_at_bit, has_place}
+use Rattle.jx_tier1.specs.WordPasses.{IsDue, Seeks, SeeksIn}
+use Rattle.jx_tier1.specs.WordScan.{pass_at_bit}
 use Rattle.jx_tier1.proofs.ChangeSight.{sees_kept, minus_kept}
 use Rattle.jx_tier1.proofs.DueWords.{IsPlaceOf, bit_le, due_zero, due_one}
 use Rattle.jx_tier1.proofs.MarkLemmas.{IsWholeAt, mark_kept}

@@ -1,6 +1,5 @@
 -- A significance pass over the places of a word, from one that is due to the next.
-use Rattle.std.proofs.Common.{◌≡◌, ◌<◌, ◌≤◌, ◌+◌, ◌-◌, ◌*◌, ◌/◌, ◌%◌, ◌&&◌, ℕ, min, Bool, true, false, refl, sym, ap, ◌∙◌, arith, subst, inl, inr}
-use Rattle.std.specs.Prelude.{nat_lt}
+use Rattle.std.proofs.Common.{◌≡◌, ◌<◌, ◌≤◌, ◌+◌, ◌%◌, ℕ, min, Bool, refl, sym, ap, ◌∙◌, arith, subst, inl, inr}
 use Rattle.std.specs.Int.{bit_at}
 use Rattle.std.proofs.lemmas.Bool.{cases_lt}
 use Rattle.std.proofs.lemmas.Nat.Bits.{bit_at-zero}
@@ -8,10 +7,9 @@ use Rattle.jx_tier1_specs.specs.declared.question.Plane.{Plane}
 use Rattle.jx_tier1_specs.specs.declared.question.Question.{Question}
 use Rattle.jx_tier1_specs.specs.Cells.{Cells}
 use Rattle.jx_tier1_specs.specs.Asking.{told}
-use Rattle.jx_tier1_specs.specs.Pass.{is_decided}
 use Rattle.jx_tier1.specs.Places.{of_nine}
-use Rattle.jx_tier1.specs.Sights.{IsBit, EndsIn}
-use Rattle.jx_tier1.specs.WordPasses.{IsDue, Picks, BeforeSignificance, AfterSignificance, Seeks, SeeksIn}
+use Rattle.jx_tier1.specs.Sights.{IsBit}
+use Rattle.jx_tier1.specs.WordPasses.{BeforeSignificance, AfterSignificance, Seeks, SeeksIn}
 use Rattle.jx_tier1.specs.WordScan.{pass_at_bit, bits_scanned, word_pass}
 use Rattle.jx_tier1.proofs.DueWords.{due_later, place_of}
 use Rattle.jx_tier1.proofs.SignificanceWord.{not_due}
@@ -54,7 +52,7 @@ later : {S : Type 0} (ask : S → Question → Bool × S) (k : Plane) (g : Cells
     → (told ask (bits_scanned 1 k x y p 0 g) s ≡ (q.cells, t)) × Seeks k q.cells x y w v o d e p
 later ask k g x y w v o d e p s t q f l m z = (
   bits_over ask 1 k x y q.at p g q.cells s t q.same l
-  (λ i a b. not_due 1 k q.cells x y w o d e q.at i refl q.word.due q.word.sight.window f (omega arith) a (z i b)),
+      (λ i a b. not_due 1 k q.cells x y w o d e q.at i refl q.word.due q.word.sight.window f (omega arith) a (z i b)),
   record {
     now = q.word.now;
     sight = q.word.sight;
@@ -84,7 +82,6 @@ sought_next {S = S} ask k g x y w v o d e p w' v' d' e' s t u q f i one z step =
       same = bits_more ask 1 k x y p g q.cells h s t u a.0 same;
       word = b.word;
     }
-
 
 -- none is due any more
 pub sought_all : {S : Type 0} (ask : S → Question → Bool × S) (k : Plane) (g : Cells) (x y w v o d e : ℕ) (s t : S) → Sought ask k g x y s w v o d e t

@@ -1,26 +1,21 @@
 -- What a window shows of a place's neighbours.
-use Rattle.std.proofs.Common.{◌≡◌, ◌<◌, ◌≤◌, ◌+◌, ◌-◌, ◌*◌, ◌/◌, ◌%◌, ◌^◌, ◌==◌, ◌&&◌, ◌||◌, ℕ, zero, suc, max, Bool, true, false, not, refl, sym, ap, ◌∙◌, arith, subst, inl, inr, if◌then◌else◌}
-use Rattle.std.specs.Prelude.{nat_lt}
+use Rattle.std.proofs.Common.{◌≡◌, ◌<◌, ◌≤◌, ◌+◌, ◌*◌, ◌/◌, ◌%◌, ◌==◌, ◌&&◌, ◌||◌, ℕ, Bool, true, false, not, refl, sym, ap, ◌∙◌, arith, inl, inr, if◌then◌else◌}
 use Rattle.std.specs.Int.{bit_at}
-use Rattle.std.proofs.lemmas.Bool.{cases_eq, cases_Bool, eq-eqb, eqb-true, ne_eqb, le-ltb, lt-ltb, true≢false}
-use Rattle.std.proofs.lemmas.Bool.Decides.{nat_tests}
+use Rattle.std.proofs.lemmas.Bool.{cases_eq, eq-eqb, eqb-true, ne_eqb, le-ltb, lt-ltb, true≢false}
 use Rattle.std.proofs.lemmas.Nat.Bits.{bit_at-lt}
 use Rattle.jx_base.specs.declared.names.Band.{Band}
 use Rattle.jx_base.specs.declared.names.Band.TheVariants.{LL, HL, LH, HH}
-use Rattle.jx_tier1_specs.specs.declared.coef.Coef.{Coef}
 use Rattle.jx_tier1_specs.specs.declared.question.Plane.{Plane}
-use Rattle.jx_tier1_specs.specs.Cells.{Cells, coef_at, significant}
-use Rattle.jx_tier1_specs.specs.Near.{one_if, one_at, coef_near, sides_of, upright_of, diagonals_of, has_near, across_of, down_of}
-use Rattle.jx_tier1_specs.specs.Labels.{significance_row, sign_row}
+use Rattle.jx_tier1_specs.specs.Cells.{Cells}
+use Rattle.jx_tier1_specs.specs.Near.{one_at, sides_of, upright_of, diagonals_of, has_near}
+use Rattle.jx_tier1_specs.specs.Labels.{significance_row}
 use Rattle.jx_tier1_specs.specs.Pass.{label_at}
 use Rattle.jx_tier1.specs.Blocks.{seen_if, Sees}
-use Rattle.jx_tier1.specs.Contexts.{first_label, plus_at, minus_at, sign_context}
-use Rattle.jx_tier1.specs.Marks.{mark, minus, is_outside}
-use Rattle.jx_tier1.specs.Places.{of_three, of_nine, of_eight, HasNine, HasFour}
+use Rattle.jx_tier1.specs.Contexts.{first_label}
+use Rattle.jx_tier1.specs.Marks.{mark}
+use Rattle.jx_tier1.specs.Places.{of_nine, of_eight, HasNine}
 use Rattle.jx_tier1.proofs.BitLemmas.{all_below, below_all}
-use Rattle.jx_tier1.proofs.MarkLemmas.{IsInside, inside_not, one_le}
-use Rattle.jx_tier1.proofs.SignLemmas.{near_inside, near_itself, across_is, down_from}
-use Rattle.jx_tier1.proofs.WindowLemmas.{seen, hidden, one_le_one, one_tested}
+use Rattle.jx_tier1.proofs.WindowLemmas.{seen, hidden, one_le_one}
 
 -- a row that is hidden, or isn't
 pub shown : (causal : Bool) (row n : ℕ) → (causal && row == 5) ≡ false → seen_if causal row n ≡ n

@@ -1,18 +1,18 @@
 -- What windows show of the signs by a place.
-use Rattle.std.proofs.Common.{◌≡◌, ◌<◌, ◌≤◌, ◌+◌, ◌-◌, ◌*◌, ◌/◌, ◌%◌, ◌^◌, ◌==◌, ◌&&◌, ◌||◌, ℕ, zero, suc, Bool, true, false, not, refl, sym, ap, ◌∙◌, arith, subst, inl, inr, if◌then◌else◌}
+use Rattle.std.proofs.Common.{◌≡◌, ◌<◌, ◌+◌, ◌-◌, ◌*◌, ◌/◌, ◌%◌, ◌==◌, ◌&&◌, ℕ, Bool, true, false, not, refl, sym, ap, ◌∙◌, arith, inl, inr, if◌then◌else◌}
 use Rattle.std.specs.Int.{bit_at}
-use Rattle.std.proofs.lemmas.Bool.{cases_eq, cases_Bool, true≢false}
+use Rattle.std.proofs.lemmas.Bool.{cases_Bool}
 use Rattle.jx_tier1_specs.specs.declared.coef.Coef.{Coef}
 use Rattle.jx_tier1_specs.specs.Cells.{Cells, coef_at, significant}
 use Rattle.jx_tier1_specs.specs.Near.{one_if, one_at, coef_near, across_of, down_of}
 use Rattle.jx_tier1_specs.specs.Labels.{sign_row}
 use Rattle.jx_tier1.specs.Blocks.{seen_if, Sees}
 use Rattle.jx_tier1.specs.Contexts.{plus_at, minus_at, sign_context}
-use Rattle.jx_tier1.specs.Marks.{mark, minus, is_outside}
+use Rattle.jx_tier1.specs.Marks.{mark, minus}
 use Rattle.jx_tier1.specs.Places.{HasFour}
 use Rattle.jx_tier1.proofs.BitLemmas.{bit_shr}
 use Rattle.jx_tier1.proofs.MarkLemmas.{IsInside, inside_not}
-use Rattle.jx_tier1.proofs.SightLemmas.{SeesNine, sees_nine, near_as, shown}
+use Rattle.jx_tier1.proofs.SightLemmas.{sees_nine, near_as, shown}
 use Rattle.jx_tier1.proofs.SignLemmas.{near_inside, near_itself, across_is, down_from}
 use Rattle.jx_tier1.proofs.WindowLemmas.{one_tested}
 

@@ -1,12 +1,12 @@
 -- What a significance pass asks at the bits of a word.
-use Rattle.std.proofs.Common.{◌≡◌, ◌≢◌, ◌<◌, ◌≤◌, ◌+◌, ◌-◌, ◌*◌, ◌/◌, ◌%◌, ◌==◌, ℕ, zero, suc, min, max, Bool, true, false, not, refl, sym, ap, ◌∙◌, arith, subst, inl, inr}
+use Rattle.std.proofs.Common.{◌≡◌, ◌<◌, ◌≤◌, ◌+◌, ◌*◌, ◌/◌, ◌%◌, ℕ, min, Bool, true, false, not, refl, sym, ap, ◌∙◌, arith, subst, inl, inr}
 use Rattle.std.specs.Int.{bit_at}
 use Rattle.std.proofs.lemmas.Bool.{cases_Bool}
 use Rattle.jx_tier1_specs.specs.declared.question.Plane.{Plane}
-use Rattle.jx_tier1_specs.specs.Cells.{Cells, coef_at, significant}
-use Rattle.jx_tier1_specs.specs.Near.{one_if, one_at}
-use Rattle.jx_tier1_specs.specs.Asking.{Asking, Told}
-use Rattle.jx_tier1_specs.specs.Pass.{pass_at, significance_at, bit_of, label_at, is_decided}
+use Rattle.jx_tier1_specs.specs.Cells.{Cells, significant}
+use Rattle.jx_tier1_specs.specs.Near.{one_if}
+use Rattle.jx_tier1_specs.specs.Asking.{Told}
+use Rattle.jx_tier1_specs.specs.Pass.{pass_at, significance_at, bit_of}
 use Rattle.jx_tier1.specs.Blocks.{Sees}
 use Rattle.jx_tier1.specs.Marks.{mark}
 use Rattle.jx_tier1.specs.Places.{of_nine, of_eight}
@@ -25,7 +25,7 @@ kind_is pass k g x y e = rw e refl
 bit_is : (p : ℕ) → 6 * (p / 6) + p % 6 ≡ p
 bit_is p = omega arith
 
-nine_at : (k : Plane) (g : Cells) (x y w i : ℕ) → Sees k.causal (mark g) x y w → y % 4 ≡ 0 → i < 48 → i % 6 < 4 → SeesNine g k.causal (x + i / 6) (y + i % 6) w i
+pub nine_at : (k : Plane) (g : Cells) (x y w i : ℕ) → Sees k.causal (mark g) x y w → y % 4 ≡ 0 → i < 48 → i % 6 < 4 → SeesNine g k.causal (x + i / 6) (y + i % 6) w i
 nine_at k g x y w i s f l m =
     subst (λ (p : ℕ). SeesNine g k.causal (x + i / 6) (y + i % 6) w p) (bit_is i) (sees_nine g k.causal x y w (i / 6) (i % 6) s f (omega arith) m)
 
@@ -72,7 +72,7 @@ flag_le : (b : Bool) → one_if b ≤ 1
 flag_le true = omega arith
 flag_le false = omega arith
 
-own_none : (k : Plane) (g : Cells) (x y w i : ℕ) → Sees k.causal (mark g) x y w → i < 48 → IsPlaceOf g x y i → significant (coef_in g x y i) ≡ false
+pub own_none : (k : Plane) (g : Cells) (x y w i : ℕ) → Sees k.causal (mark g) x y w → i < 48 → IsPlaceOf g x y i → significant (coef_in g x y i) ≡ false
     → bit_at w (i + 6 + 1) ≡ 0
 own_none k g x y w i s l p a =
     let c : ℕ = i / 6 in

@@ -1,13 +1,12 @@
 -- The coefficients after some bits of a word: they go on within the plane.
-use Rattle.std.proofs.Common.{◌≡◌, ◌<◌, ◌≤◌, ◌+◌, ◌*◌, ◌/◌, ◌%◌, ◌&&◌, ℕ, zero, suc, Bool, true, false, refl, sym, ap, ◌∙◌, arith, subst, inl, inr, length}
+use Rattle.std.proofs.Common.{◌≡◌, ◌<◌, ◌+◌, ◌*◌, ◌/◌, ◌%◌, ◌&&◌, ℕ, zero, suc, Bool, true, false, refl, sym, ◌∙◌, arith, subst, inl, inr}
 use Rattle.std.specs.Prelude.{nat_lt}
 use Rattle.std.proofs.lemmas.Bool.{cases_Bool}
 use Rattle.std.proofs.lemmas.Bool.Decides.{nat_tests}
 use Rattle.jx_tier1_specs.specs.declared.question.Plane.{Plane}
 use Rattle.jx_tier1_specs.specs.declared.question.Question.{Question}
 use Rattle.jx_tier1_specs.specs.Cells.{Cells, coef_at, significant}
-use Rattle.jx_tier1_specs.specs.Asking.{Asking, Told, and_then, told}
-use Rattle.jx_tier1_specs.specs.Pass.{pass_at}
+use Rattle.jx_tier1_specs.specs.Asking.{Asking, told}
 use Rattle.jx_tier1_specs.proofs.StepLemmas.{no_bits}
 use Rattle.jx_tier1_specs.proofs.Told.{told_then}
 use Rattle.jx_tier1.specs.Walking.{IsNow}

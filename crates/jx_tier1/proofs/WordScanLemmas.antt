@@ -1,5 +1,5 @@
 -- A pass over the bits of a word is the pass over its places.
-use Rattle.std.proofs.Common.{◌≡◌, ◌<◌, ◌≤◌, ◌+◌, ◌-◌, ◌*◌, ◌/◌, ◌%◌, ◌&&◌, ℕ, zero, suc, min, Bool, true, false, refl, sym, ap, ◌∙◌, arith, subst, inl, inr, if◌then◌else◌}
+use Rattle.std.proofs.Common.{◌≡◌, ◌<◌, ◌≤◌, ◌+◌, ◌-◌, ◌*◌, ◌/◌, ◌%◌, ◌&&◌, ℕ, zero, suc, min, Bool, true, false, refl, sym, ap, ◌∙◌, arith, inl, inr, if◌then◌else◌}
 use Rattle.std.specs.Prelude.{nat_lt}
 use Rattle.std.proofs.lemmas.Bool.{cases_lt, lt-ltb, le-ltb}
 use Rattle.std.proofs.Math.Nat.{mul-le-mul_right, mul-le-mul_left}
@@ -13,7 +13,7 @@ use Rattle.jx_tier1_specs.proofs.Told.{told_then}
 use Rattle.jx_tier1.specs.Numbers.{first_of}
 use Rattle.jx_tier1.specs.Walking.{IsNow}
 use Rattle.jx_tier1.specs.WordScan.{has_place, pass_at_bit, bits_scanned}
-use Rattle.jx_tier1.proofs.PaceLemmas.{IsAfter, place_after, scan_after}
+use Rattle.jx_tier1.proofs.PaceLemmas.{place_after, scan_after}
 use Rattle.jx_tier1.proofs.ScanLemmas.{nth_is, scanned_then}
 
 -- some bits, and some more
@@ -63,7 +63,7 @@ second_false : (a b : Bool) → (a && (false && b)) ≡ false
 second_false true b = refl
 second_false false b = refl
 
-no_row : (g : Cells) (x y p : ℕ) → g.height ≤ y + p % 6 → has_place g x y p ≡ false
+pub no_row : (g : Cells) (x y p : ℕ) → g.height ≤ y + p % 6 → has_place g x y p ≡ false
 no_row g x y p l = rw (le-ltb (y + p % 6) g.height l) (and_false (nat_lt (p % 6) 4) (nat_lt (x + p / 6) g.width))
 
 no_gap : (g : Cells) (x y p : ℕ) → 4 ≤ p % 6 → has_place g x y p ≡ false

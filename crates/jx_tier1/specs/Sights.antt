@@ -1,6 +1,5 @@
 -- A pass within a word: what it has in hand of the word, and what it leaves.
-use Rattle.std.specs.Prelude.{ℕ, ◌≡◌, ◌+◌, ◌*◌, ◌/◌, ◌%◌, ◌<◌, ◌≤◌, Bool, length}
-use Rattle.jx_tier1_specs.specs.declared.question.Plane.{Plane}
+use Rattle.std.specs.Prelude.{ℕ, ◌≡◌, ◌*◌, ◌/◌, ◌%◌, ◌<◌, Bool, length}
 use Rattle.jx_tier1_specs.specs.Cells.{Cells}
 use Rattle.jx_tier1.specs.Blocks.{Sees}
 use Rattle.jx_tier1.specs.Marks.{mark, minus}

@@ -1,10 +1,10 @@
 -- A coding pass within a word: what is known of the word before the pass, and what holds after it (ITU-T T.800, D.3).
-use Rattle.std.specs.Prelude.{ℕ, ◌≡◌, ◌<◌, ◌≤◌, ◌+◌, ◌/◌, ◌%◌, min, nat_lt, Bool, true, false, not, ◌&&◌, ◌||◌}
+use Rattle.std.specs.Prelude.{ℕ, ◌≡◌, ◌<◌, ◌≤◌, ◌+◌, ◌-◌, ◌/◌, ◌%◌, min, nat_lt, Bool, true, false, not, ◌&&◌, ◌||◌}
 use Rattle.std.specs.Int.{bit_at}
 use Rattle.jx_tier1_specs.specs.declared.coef.Coef.{Coef}
 use Rattle.jx_tier1_specs.specs.declared.question.Plane.{Plane}
 use Rattle.jx_tier1_specs.specs.Cells.{Cells, coef_at, significant}
-use Rattle.jx_tier1_specs.specs.Near.{one_if}
+use Rattle.jx_tier1_specs.specs.Near.{one_if, has_near}
 use Rattle.jx_tier1_specs.specs.Pass.{is_decided, is_refined}
 use Rattle.jx_tier1.specs.Blocks.{Sees}
 use Rattle.jx_tier1.specs.Marks.{mark}
@@ -67,8 +67,38 @@ pub record BeforeRefinement (k : Plane) (g : Cells) (x y w d m : ℕ) : Type 0 w
   pub due : Picks (λ c. significant c && not (is_decided k c)) g x y d
   pub refined : (i : ℕ) → in_word g x y i ≡ true → bit_at d i ≡ 1 → bit_at m i ≡ one_if (is_refined k (coef_in g x y i))
 
+-- within the pass: a significant place that wasn't decided; a bit says whether it was refined before, another one whether it
+-- wasn't and a neighbour is significant
+pub record IsRefinable (k : Plane) (g : Cells) (x y n m i : ℕ) : Type 0 where
+  pub place : in_word g x y i ≡ true
+  pub marked : significant (coef_in g x y i) ≡ true
+  pub fresh : is_decided k (coef_in g x y i) ≡ false
+  pub refined : bit_at m i ≡ one_if (is_refined k (coef_in g x y i))
+  pub near : bit_at n i ≡ one_if (not (is_refined k (coef_in g x y i)) && has_near g k.causal (x + i / 6) (y + i % 6))
+
 -- before a cleanup pass: a word has the insignificant places that weren't decided (D.3.4)
 pub record BeforeCleanup (k : Plane) (g : Cells) (x y w v d : ℕ) : Type 0 where
   pub now : IsNow k g
   pub sight : IsSight k.causal g x y w v
   pub due : Picks (λ c. not (significant c || is_decided k c)) g x y d
+
+-- whether a place is left to the pass and none of its nine is significant; whether it and the three below it are so
+abbrev pub quiet_bit : ℕ → ℕ → ℕ → ℕ
+quiet_bit d w i = min (bit_at d i) (1 - of_nine w i)
+
+abbrev pub four_quiet : ℕ → ℕ → ℕ → ℕ
+four_quiet d w i = min (min (quiet_bit d w i) (quiet_bit d w (i + 1))) (min (quiet_bit d w (i + 2)) (quiet_bit d w (i + 3)))
+
+-- within the pass, at a bit: from it on which places are left, and which columns are in run mode, at the bits of their first
+-- places
+pub record Cleans (k : Plane) (g : Cells) (x y w v d z b : ℕ) : Type 0 where
+  pub now : IsNow k g
+  pub sight : IsSight k.causal g x y w v
+  pub due : (i : ℕ) → b ≤ i → in_word g x y i ≡ true → bit_at d i ≡ one_if (not (significant (coef_in g x y i) || is_decided k (coef_in g x y i)))
+  pub none : (i : ℕ) → in_word g x y i ≡ false → bit_at d i ≡ 0
+  pub before : (i : ℕ) → i < b → bit_at d i ≡ 0
+  pub runs : (i : ℕ) → b ≤ i → i < 48 → i % 6 ≡ 0 → bit_at z i ≡ four_quiet d w i
+
+pub record CleansIn {S : Type 0} (k : Plane) (x y : ℕ) (told : Cells × S) (w v d z b : ℕ) (after : S) : Type 0 where
+  pub word : Cleans k told.0 x y w v d z b
+  pub source : after ≡ told.1

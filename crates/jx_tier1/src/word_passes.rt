@@ -7,7 +7,7 @@ ghost use Rattle.jx_tier1_specs.specs.Asking.{told};
 ghost use Rattle.jx_tier1_specs.specs.Pass.{IsScan, zeroed, named_at, run_at};
 ghost use Rattle.jx_tier1.specs.Places.{IsWord};
 ghost use Rattle.jx_tier1.specs.Sights.{IsBit, EndsIn};
-ghost use Rattle.jx_tier1.specs.WordPasses.{Seeks, SeeksIn, BeforeSignificance, AfterSignificance, BeforeRefinement, BeforeCleanup};
+ghost use Rattle.jx_tier1.specs.WordPasses.{Seeks, SeeksIn, BeforeSignificance, AfterSignificance, IsRefinable, BeforeRefinement, BeforeCleanup, Cleans, CleansIn};
 ghost use Rattle.jx_tier1.specs.WordScan.{pass_at_bit, word_pass};
 
 use crate::contexts::Tables;
@@ -100,6 +100,30 @@ pub(crate) fn significance_word<S: Source>(
     Ok((word.sight, word.seen))
 }
 
+/// Decides the next bit of a significant coefficient (T.800 D.3.3), by the places that were refined
+/// before and those that weren't and have a significant neighbour.
+#[inline(always)]
+fn refinement_place<S: Source>(
+    source: &mut S,
+    plane: Plane,
+    corner: Corner,
+    near: u64,
+    refined: u64,
+    place: u32,
+) -> Result<(), NoMemory>
+    requires scan { IsScan plane }
+    requires wide { corner.x < 1024 }
+    requires high { corner.y < 1024 }
+    requires place { place < 64 }
+    ensures { (g : Cells) → IsRefinable plane g corner.x corner.y near refined place
+        → OnOk result (source.new ≡ (told S.ask (pass_at_bit 2 plane g corner.x corner.y place) source.old).1) }
+{
+    let label = 14 + 2 * ((refined >> place) % 2) + (near >> place) % 2;
+    let about = About::Bit(corner.column(place), corner.row(place));
+    source.ask(asked(plane, label as u8, false, about))?;
+    Ok(())
+}
+
 /// A refinement pass over a word (T.800 D.3.3), by its window, the significant places that weren't
 /// decided in this plane, and the places that were refined before. After `NoMemory` the source is
 /// given up.
@@ -123,10 +147,8 @@ pub(crate) fn refinement_word<S: Source>(
     let mut due = places;
     while due != 0 {
         let place = lowest(due);
+        refinement_place(source, plane, corner, near, refined, place)?;
         due = behind(due, place);
-        let label = 14 + 2 * (refined >> place & 1) + (near >> place & 1);
-        let about = About::Bit(corner.column(place), corner.row(place));
-        source.ask(asked(plane, label as u8, false, about))?;
     }
     Ok(())
 }
@@ -160,6 +182,130 @@ pub(crate) fn decide_run<S: Source>(
     Ok(2 * u32::from(high) + u32::from(low))
 }
 
+/// A word within a cleanup pass: its windows, the places that are left, and the columns in run mode, at
+/// the bits of their first places.
+#[derive(Clone, Copy)]
+struct Cleaning {
+    sight: Sight,
+    due: u64,
+    runs: u64,
+}
+
+/// Decides a column in run mode, by its first place (T.800 D.3.4).
+#[inline(always)]
+fn cleanup_run<S: Source>(
+    source: &mut S,
+    tables: &Tables,
+    plane: Plane,
+    corner: Corner,
+    word: Cleaning,
+    place: u32,
+) -> Result<Cleaning, NoMemory>
+    requires scan { IsScan plane }
+    requires band { tables.now ≡ plane.band }
+    requires wide { corner.x < 1024 }
+    requires high { corner.y < 1024 }
+    requires first { corner.y % 4 ≡ 0 }
+    requires place { IsBit place }
+    requires one { bit_at word.due place ≡ 1 }
+    requires row { place % 6 ≡ 0 }
+    requires run { bit_at word.runs place ≡ 1 }
+    ensures walk { (g : Cells) → Cleans plane g corner.x corner.y word.sight.window word.sight.signs word.due word.runs place
+        → IfOk result (λ after. CleansIn plane corner.x corner.y (told S.ask (pass_at_bit 0 plane g corner.x corner.y place) source.old) after.sight.window after.sight.signs after.due after.runs (place + 1) source.new) }
+    ensures before { IfOk result (λ after. (i : ℕ) → i ≤ place → bit_at after.due i ≡ 0) }
+    ensures due { IfOk result (λ after. (i : ℕ) → bit_at after.due i ≤ bit_at word.due i) }
+    ensures runs { IfOk result (λ after. (i : ℕ) → bit_at after.runs i ≤ bit_at word.runs i) }
+    ensures fits { IfOk result (λ after. after.due < 2 ^ 64) }
+{
+    let row = decide_run(source, plane, corner, place)?;
+    if row == 4 {
+        return Ok(Cleaning {
+            sight: word.sight,
+            due: behind(word.due, place + 3),
+            runs: word.runs,
+        });
+    }
+    let first = place + row;
+    let sight = decide_sign(source, tables, plane, corner, word.sight, first)?;
+    Ok(Cleaning {
+        sight,
+        due: behind(word.due, first),
+        runs: behind(word.runs, first + 6),
+    })
+}
+
+/// Decides the bit of a place that isn't in run mode, and at 1 its sign (T.800 D.3.4).
+#[inline(always)]
+fn cleanup_usual<S: Source>(
+    source: &mut S,
+    tables: &Tables,
+    plane: Plane,
+    corner: Corner,
+    word: Cleaning,
+    place: u32,
+) -> Result<Cleaning, NoMemory>
+    requires scan { IsScan plane }
+    requires band { tables.now ≡ plane.band }
+    requires wide { corner.x < 1024 }
+    requires high { corner.y < 1024 }
+    requires first { corner.y % 4 ≡ 0 }
+    requires place { IsBit place }
+    requires one { bit_at word.due place ≡ 1 }
+    requires run { bit_at word.runs place ≡ 0 }
+    ensures walk { (g : Cells) → Cleans plane g corner.x corner.y word.sight.window word.sight.signs word.due word.runs place
+        → IfOk result (λ after. CleansIn plane corner.x corner.y (told S.ask (pass_at_bit 0 plane g corner.x corner.y place) source.old) after.sight.window after.sight.signs after.due after.runs (place + 1) source.new) }
+    ensures before { IfOk result (λ after. (i : ℕ) → i ≤ place → bit_at after.due i ≡ 0) }
+    ensures due { IfOk result (λ after. (i : ℕ) → bit_at after.due i ≤ bit_at word.due i) }
+    ensures runs { IfOk result (λ after. (i : ℕ) → bit_at after.runs i ≤ bit_at word.runs i) }
+    ensures fits { IfOk result (λ after. after.due < 2 ^ 64) }
+{
+    let due = behind(word.due, place);
+    if !decide_bit(source, tables, plane, corner, word.sight, place)? {
+        return Ok(Cleaning {
+            sight: word.sight,
+            due,
+            runs: word.runs,
+        });
+    }
+    let sight = decide_sign(source, tables, plane, corner, word.sight, place)?;
+    Ok(Cleaning {
+        sight,
+        due,
+        runs: behind(word.runs, place + 6),
+    })
+}
+
+/// Decides a place that is left, or the column in run mode that begins with it (T.800 D.3.4).
+#[inline(always)]
+fn cleanup_place<S: Source>(
+    source: &mut S,
+    tables: &Tables,
+    plane: Plane,
+    corner: Corner,
+    word: Cleaning,
+    place: u32,
+) -> Result<Cleaning, NoMemory>
+    requires scan { IsScan plane }
+    requires band { tables.now ≡ plane.band }
+    requires wide { corner.x < 1024 }
+    requires high { corner.y < 1024 }
+    requires first { corner.y % 4 ≡ 0 }
+    requires place { IsBit place }
+    requires one { bit_at word.due place ≡ 1 }
+    requires rows { (i : ℕ) → bit_at word.runs i ≡ 1 → i % 6 ≡ 0 }
+    ensures walk { (g : Cells) → Cleans plane g corner.x corner.y word.sight.window word.sight.signs word.due word.runs place
+        → IfOk result (λ after. CleansIn plane corner.x corner.y (told S.ask (pass_at_bit 0 plane g corner.x corner.y place) source.old) after.sight.window after.sight.signs after.due after.runs (place + 1) source.new) }
+    ensures before { IfOk result (λ after. (i : ℕ) → i ≤ place → bit_at after.due i ≡ 0) }
+    ensures due { IfOk result (λ after. (i : ℕ) → bit_at after.due i ≤ bit_at word.due i) }
+    ensures runs { IfOk result (λ after. (i : ℕ) → bit_at after.runs i ≤ bit_at word.runs i) }
+    ensures fits { IfOk result (λ after. after.due < 2 ^ 64) }
+{
+    if (word.runs >> place) % 2 != 0 {
+        return cleanup_run(source, tables, plane, corner, word, place);
+    }
+    cleanup_usual(source, tables, plane, corner, word, place)
+}
+
 /// A cleanup pass over a word (T.800 D.3.4), by its windows and the insignificant places that weren't
 /// decided in this plane. Gives the windows after it. After `NoMemory` the source is given up.
 #[inline(always)]
@@ -180,26 +326,14 @@ pub(crate) fn cleanup_word<S: Source>(
     ensures walk { (g : Cells) → BeforeCleanup plane g corner.x corner.y sight.window sight.signs places
         → IfOk result (λ after. EndsIn plane.causal corner.x corner.y (told S.ask (word_pass 0 plane corner.x corner.y g) source.old) after.window after.signs source.new) }
 {
-    let mut sight = sight;
-    let mut due = places;
-    let mut runs = whole_columns(places & !near(sight.window));
-    while due != 0 {
-        let place = lowest(due);
-        let mut first = place;
-        if (runs >> place) % 2 != 0 {
-            let row = decide_run(source, plane, corner, place)?;
-            if row == 4 {
-                due = behind(due, place + 3);
-                continue;
-            }
-            first = place + row;
-        } else if !decide_bit(source, tables, plane, corner, sight, place)? {
-            due = behind(due, place);
-            continue;
-        }
-        sight = decide_sign(source, tables, plane, corner, sight, first)?;
-        runs = behind(runs, first + 6);
-        due = behind(due, first);
+    let mut word = Cleaning {
+        sight,
+        due: places,
+        runs: whole_columns(places & !near(sight.window)),
+    };
+    while word.due != 0 {
+        let place = lowest(word.due);
+        word = cleanup_place(source, tables, plane, corner, word, place)?;
     }
-    Ok(sight)
+    Ok(word.sight)
 }

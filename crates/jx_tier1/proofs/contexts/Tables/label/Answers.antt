@@ -1,4 +1,4 @@
-use Rattle.std.proofs.Common.{ℕ, List, ◌≡◌, ◌<◌, ◌≤◌, ◌∙◌, sym, subst, get_or, length, arith}
+use Rattle.std.proofs.Common.{ℕ, ◌≡◌, ◌<◌, ◌≤◌, ◌∙◌, sym, subst, get_or, length, arith}
 use Rattle.std.proofs.lemmas.List.{get_or_read}
 use Rattle.jx_tier1.specs.Contexts.{HasFirsts}
 use Rattle.jx_tier1.proofs.ContextLemmas.{first_read}

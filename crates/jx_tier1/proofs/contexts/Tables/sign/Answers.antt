@@ -1,4 +1,4 @@
-use Rattle.std.proofs.Common.{ℕ, List, ◌≡◌, ◌<◌, ◌%◌, ◌∙◌, ap, sym, subst, get_or, length, arith}
+use Rattle.std.proofs.Common.{ℕ, ◌≡◌, ◌<◌, ◌%◌, ◌∙◌, ap, sym, subst, get_or, length, arith}
 use Rattle.std.specs.Prelude.{nat_le}
 use Rattle.std.proofs.lemmas.List.{get_or_read}
 use Rattle.jx_tier1.specs.Contexts.{HasContexts}
