@@ -7,7 +7,7 @@ use Rattle.jx_tier1_specs.specs.Cells.{Cells}
 use Rattle.jx_tier1_specs.specs.Asking.{told}
 use Rattle.jx_tier1_specs.specs.Pass.{scanned}
 use Rattle.jx_tier1.specs.Blocks.{BlockWords}
-use Rattle.jx_tier1.specs.BlockPasses.{IsMidway, ComesTo}
+use Rattle.jx_tier1.specs.BlockPasses.{AreVisited, IsMidway, ComesTo}
 use Rattle.jx_tier1.specs.Numbers.{first_of}
 use Rattle.jx_tier1.specs.Walking.{IsNow}
 use Rattle.jx_tier1.specs.WordScan.{word_pass}
@@ -28,10 +28,10 @@ comes_then {S = S} ask pass k m s t a b n g o u v z e f =
     subst Q (sym (scanned_then ask pass k a b n g u)) (subst P e f)
 
 -- one more word of a stripe
-abbrev rows_in : Cells → ℕ → ℕ
+abbrev pub rows_in : Cells → ℕ → ℕ
 rows_in g s = min 4 (g.height - 4 * s)
 
-abbrev words_in : Cells → ℕ → ℕ → ℕ
+abbrev pub words_in : Cells → ℕ → ℕ → ℕ
 words_in g s t = min (8 * t) g.width * rows_in g s
 
 words_room : (w h t s rows : ℕ) → 4 * s < h → rows ≡ min 4 (h - 4 * s) → 4 * s * w + min (8 * t) w * rows ≤ w * h
@@ -101,7 +101,7 @@ stripe_done {S = S} ask pass k m s t g b u v w l q e =
     })
 
 -- one more stripe
-abbrev stripes_in : Cells → ℕ → ℕ
+abbrev pub stripes_in : Cells → ℕ → ℕ
 stripes_in g s = g.width * min (4 * s) g.height
 
 pub stripes_after : {S : Type 0} (ask : S → Question → Bool × S) (pass : ℕ) (k : Plane) (s : ℕ) (g : Cells) (u : S) → IsNow k g
@@ -149,13 +149,15 @@ stripes_none {S = S} ask pass k m g b u h =
 -- all of them: one more pass of the plane went over the block
 pub stripes_done : {S : Type 0} (ask : S → Question → Bool × S) (pass : ℕ) (k : Plane) (m s : ℕ) (g : Cells) (b : BlockWords) (u v : S) → IsNow k g → g.height ≤ 4 * s
     → ComesTo m s 0 k (told ask (scanned pass k (stripes_in g s) 0 g) u) b v
-    → ComesTo (suc m) 0 0 k (told ask (scanned pass k (g.width * g.height) 0 g) u) b v
+    → ComesTo (m + 1) 0 0 k (told ask (scanned pass k (g.width * g.height) 0 g) u) b v
 stripes_done {S = S} ask pass k m s g b u v w l e =
     let h : Cells = (told ask (scanned pass k (stripes_in g s) 0 g) u).0 in
     let r = stripes_after ask pass k s g u w in
     let d : min (4 * s) g.height ≡ g.height = omega arith in
-    let R : ℕ → Type 0 = λ y. ComesTo (suc m) 0 0 k (told ask (scanned pass k (g.width * y) 0 g) u) b v in
+    let R : ℕ → Type 0 = λ y. ComesTo (m + 1) 0 0 k (told ask (scanned pass k (g.width * y) 0 g) u) b v in
+    let n : suc m ≡ m + 1 = omega arith in
+    let all = block_visited m k.number s h b (let c = r.height in omega arith) e.block.visited in
     subst R d (record {
-      block = record { drawn = e.block.drawn; visited = block_visited m k.number s h b (let c = r.height in omega arith) e.block.visited };
+      block = record { drawn = e.block.drawn; visited = subst (λ (y : ℕ). AreVisited y k.number 0 0 h b) n all };
       source = e.source;
     })

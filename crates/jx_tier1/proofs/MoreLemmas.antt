@@ -13,7 +13,7 @@ use Rattle.jx_tier1.specs.BlockPasses.{is_more}
 use Rattle.jx_tier1.proofs.WordMoves.{IsPath, TakesZeros, TakesMore}
 
 -- an insignificant one wasn't
-none_more : (planes : ℕ) (c : Coef) → c.bits ≡ 0 → is_more planes c ≡ false
+pub none_more : (planes : ℕ) (c : Coef) → c.bits ≡ 0 → is_more planes c ≡ false
 none_more planes c z =
     let e : c.bits / 2 ^ (planes - c.planes) ≡ 0 = ap (λ (b : ℕ). b / 2 ^ (planes - c.planes)) z ∙ zero-div (2 ^ (planes - c.planes)) in
     rw e refl

@@ -31,7 +31,7 @@ other_before s t x y n =
 row_end : (s t x y : ℕ) → x / 8 < t → is_before s t x y ≡ is_before (s + 1) 0 x y
 row_end s t x y l = grind (arith, nat_tests)
 
-none_before : (x y : ℕ) → is_before 0 0 x y ≡ false
+pub none_before : (x y : ℕ) → is_before 0 0 x y ≡ false
 none_before x y = grind (arith, nat_tests)
 
 all_before : (s x y : ℕ) → y / 4 < s → is_before s 0 x y ≡ true

@@ -5,11 +5,9 @@ ghost use Rattle.jx_base.specs.Passes.{is_causal};
 ghost use Rattle.jx_tier1_specs.specs.Segments.{bytes_of};
 ghost use Rattle.jx_tier1_specs.specs.Reading.{coding_of, decoded, zeros};
 ghost use Rattle.jx_tier1_specs.specs.Needs.{written};
-ghost use Rattle.jx_tier1.specs.Labels.{AreLabels};
 ghost use Rattle.jx_tier1.specs.InStep.{Recoding, recoded_from, to_recode, no_grid};
-ghost use Rattle.jx_tier1.specs.Notes.{Marking, unmarked};
+ghost use Rattle.jx_tier1.specs.Blocks.{BlockWords, blank};
 ghost use Rattle.jx_tier1.specs.Placing.{placed};
-ghost use Rattle.jx_tier1.specs.Turns.{AreTurns};
 ghost use Rattle.jx_tier1_specs.specs.Short.{AreShort};
 
 use crate::copier::Copier;
@@ -99,7 +97,7 @@ fn end(recoder: Recoder) -> FlagRecoded
 /// Decodes the passes of a block and codes them.
 fn run<'a>(
     recoder: &mut Recoder<'a>,
-    marks: &mut BlockState,
+    block: &mut BlockState,
     alloc: Global,
     tables: &Tables,
     coded: &Coded,
@@ -108,24 +106,25 @@ fn run<'a>(
     requires some { 1 ≤ coded.now.planes }
     requires planes { coded.now.planes ≤ 74 }
     requires passes { coded.now.passes ≤ 3 * coded.now.planes - 2 }
-    requires fresh { marks.old ≡ unmarked marks.old.width marks.old.height }
-    requires wide { marks.old.width ≤ 1024 }
-    requires high { marks.old.height ≤ 1024 }
+    requires fresh { block.old ≡ blank block.old.width block.old.height }
+    requires band { tables.now ≡ coded.now.band }
+    requires wide { block.old.width ≤ 1024 }
+    requires high { block.old.height ≤ 1024 }
     requires rest { AreShort recoder.old.rest }
     ensures done { let planes = coded.now.planes in let band = coded.now.band in
-        let start = placed (zeros marks.old.width marks.old.height) recoder.old in
+        let start = placed (zeros block.old.width block.old.height) recoder.old in
         OnOk result (recoder.new.done ≡ (recoded_from (coding_of band coded.now.style.bits planes) (coding_of band style.bits planes) coded.now.passes 0 start).done) }
     ensures looked { let planes = coded.now.planes in let band = coded.now.band in
-        let start = placed (zeros marks.old.width marks.old.height) recoder.old in
+        let start = placed (zeros block.old.width block.old.height) recoder.old in
         OnOk result (recoder.new.looked ≡ (recoded_from (coding_of band coded.now.style.bits planes) (coding_of band style.bits planes) coded.now.passes 0 start).looked) }
     ensures wrong { let planes = coded.now.planes in let band = coded.now.band in
-        let start = placed (zeros marks.old.width marks.old.height) recoder.old in
+        let start = placed (zeros block.old.width block.old.height) recoder.old in
         OnOk result (recoder.new.wrong ≡ (recoded_from (coding_of band coded.now.style.bits planes) (coding_of band style.bits planes) coded.now.passes 0 start).wrong) }
 {
     for pass in 0..coded.passes {
         recoder.pass(
             alloc,
-            marks,
+            block,
             tables,
             coded.band,
             coded.style,
@@ -138,7 +137,7 @@ fn run<'a>(
     Ok(())
 }
 
-/// The same from tables of labels and from marks that it makes.
+/// The same with tables and words of a block that it makes.
 fn run_block<'a>(
     recoder: &mut Recoder<'a>,
     alloc: Global,
@@ -164,8 +163,8 @@ fn run_block<'a>(
         OnOk result (recoder.new.wrong ≡ (recoded_from (coding_of band coded.now.style.bits planes) (coding_of band style.bits planes) coded.now.passes 0 start).wrong) }
 {
     let tables = Tables::new(alloc, coded.band)?;
-    let mut marks = BlockState::new(alloc, width, height)?;
-    run(recoder, &mut marks, alloc, &tables, coded, style)
+    let mut block = BlockState::new(alloc, width, height)?;
+    run(recoder, &mut block, alloc, &tables, coded, style)
 }
 
 /// The segments in another style of a block of at most 1,024 by 1,024 places, from its coded passes

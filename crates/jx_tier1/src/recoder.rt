@@ -6,12 +6,11 @@ ghost use Rattle.jx_tier1_specs.specs.Asking.{told};
 ghost use Rattle.jx_tier1_specs.specs.Cells.{Cells};
 ghost use Rattle.jx_tier1_specs.specs.Pass.{IsScan, plane_of, scanned};
 ghost use Rattle.jx_tier1_specs.specs.Reading.{coding_of, first_segment, read_symbol, first_wrong, ends_by_symbol};
-ghost use Rattle.jx_tier1.specs.Labels.{AreLabels};
 ghost use Rattle.jx_tier1.specs.InStep.{Recoding, begun, checked, copy_answer, marked, ended, recoded_pass, renewed_both};
-ghost use Rattle.jx_tier1.specs.Notes.{Marking, Shows, IsOfSize};
+ghost use Rattle.jx_tier1.specs.Blocks.{BlockWords};
+ghost use Rattle.jx_tier1.specs.BlockPasses.{Shows, HasSizeOf, Ends};
 ghost use Rattle.jx_tier1.specs.Placing.{placed, Goes};
-ghost use Rattle.jx_tier1.specs.Turns.{AreTurns};
-ghost use Rattle.jx_tier1.specs.Walking.{Ends, IsNow};
+ghost use Rattle.jx_tier1.specs.Walking.{IsNow};
 ghost use Rattle.jx_tier1_specs.specs.Writing.{fresh_writing, segment_by};
 ghost use Rattle.jx_tier1_specs.specs.Short.{AreShort};
 ghost use Rattle.jx_tier1_specs.specs.Ends.{stand_of, end_in};
@@ -105,7 +104,7 @@ impl<'a> Recoder<'a> {
     /// A pass's own decisions.
     fn bits(
         &mut self,
-        marks: &mut BlockState,
+        block: &mut BlockState,
         tables: &Tables,
         band: Band,
         old: Style,
@@ -115,17 +114,18 @@ impl<'a> Recoder<'a> {
     ) -> Result<(), NoMemory>
         requires scan { IsScan (plane_of band (is_causal old.bits) planes pass) }
         requires few { pass ≤ 220 }
-        requires wide { marks.old.width ≤ 1024 }
-        requires high { marks.old.height ≤ 1024 }
-        ensures size { IsOfSize marks.old marks.new }
+        requires band { tables.now ≡ band }
+        requires wide { block.old.width ≤ 1024 }
+        requires high { block.old.height ≤ 1024 }
+        ensures size { HasSizeOf block.old block.new }
         ensures kept { self.new ≡ record self.old { copying = self.new.copying } }
-        ensures walk { (g : Cells) → Shows planes g marks.old → IsNow (plane_of band (is_causal old.bits) planes pass) g
-            → OnOk result (Ends planes (told copy_answer (scanned pass (plane_of band (is_causal old.bits) planes pass) (g.width * g.height) 0 g)
-            (renewed_both old.bits new.bits self.old.copying)) marks.new self.new.copying) }
+        ensures walk { (g : Cells) → Shows planes pass g block.old → IsNow (plane_of band (is_causal old.bits) planes pass) g
+            → OnOk result (Ends planes (pass + 1) (told copy_answer (scanned pass (plane_of band (is_causal old.bits) planes pass) (g.width * g.height) 0 g)
+            (renewed_both old.bits new.bits self.old.copying)) block.new self.new.copying) }
     {
         self.copier.renew(old, new);
         let plane = plane_for(band, old, planes, pass);
-        walk_pass(&mut self.copier, marks, tables, plane, pass)?;
+        walk_pass(&mut self.copier, block, tables, plane, pass)?;
         Ok(())
     }
 
@@ -214,7 +214,7 @@ impl<'a> Recoder<'a> {
     pub fn pass(
         &mut self,
         alloc: Global,
-        marks: &mut BlockState,
+        block: &mut BlockState,
         tables: &Tables,
         band: Band,
         old: Style,
@@ -225,16 +225,17 @@ impl<'a> Recoder<'a> {
     ) -> Result<(), NoMemory>
         requires scan { IsScan (plane_of band (is_causal old.bits) planes pass) }
         requires few { pass ≤ 220 }
-        requires wide { marks.old.width ≤ 1024 }
-        requires high { marks.old.height ≤ 1024 }
+        requires band { tables.now ≡ band }
+        requires wide { block.old.width ≤ 1024 }
+        requires high { block.old.height ≤ 1024 }
         requires rest { AreShort self.old.rest }
-        ensures size { IsOfSize marks.old marks.new }
+        ensures size { HasSizeOf block.old block.new }
         ensures rest { OnOk result (AreShort self.new.rest) }
-        ensures walk { (g : Cells) → Shows planes g marks.old → IsNow (plane_of band (is_causal old.bits) planes pass) g
-            → OnOk result (Goes planes (recoded_pass (coding_of band old.bits planes) (coding_of band new.bits planes) last pass (placed g self.old)) marks.new self.new) }
+        ensures walk { (g : Cells) → Shows planes pass g block.old → IsNow (plane_of band (is_causal old.bits) planes pass) g
+            → OnOk result (Goes planes (pass + 1) (recoded_pass (coding_of band old.bits planes) (coding_of band new.bits planes) last pass (placed g self.old)) block.new self.new) }
     {
         self.open(old, pass);
-        self.bits(marks, tables, band, old, new, planes, pass)?;
+        self.bits(block, tables, band, old, new, planes, pass)?;
         self.check(old, pass)?;
         self.mark(new, pass)?;
         self.close(alloc, new, pass, last)?;
