@@ -17,7 +17,7 @@ use Rattle.jx_tier1.proofs.MoreLemmas.{none_more}
 use Rattle.jx_tier1.proofs.PassLemmas.{visited_before}
 
 -- words of 0
-none_at : (n i : ℕ) → get_or (replicate n 0) i 0 ≡ 0
+none_at : (n i : ℕ) → ◌≡◌ {A = ℕ} (get_or (replicate n 0) i 0) 0
 none_at zero i = refl
 none_at (suc n) zero = refl
 none_at (suc n) (suc i) = none_at n i

@@ -1,6 +1,6 @@
 -- Two codings of a block that are read beside each other: each question is put to both, under the label that the first one's
 -- coefficients give it (ITU-T T.800, D.3, D.4).
-use Rattle.std.specs.Prelude.{ℕ, ◌≡◌, Bool, true, false, ◌&&◌, List, drop, if◌then◌else◌}
+use Rattle.std.specs.Prelude.{ℕ, ◌≡◌, ◌+◌, Bool, true, false, ◌&&◌, List, drop, if◌then◌else◌}
 use Rattle.std.specs.Bool.{beq}
 use Rattle.jx_base.specs.Passes.{raw_pass}
 use Rattle.jx_tier1_specs.specs.declared.question.Question.{Question}

@@ -13,6 +13,5 @@ pub mod Placing
 pub mod Sights
 pub mod Signs
 pub mod Walking
-pub mod Windows
 pub mod WordPasses
 pub mod WordScan

@@ -31,8 +31,7 @@ pass-requires c =
     let l = c.loop-pass-test.true in
     let r = reading_ready d w h c.args.coded.now.passes c.loop-pass.pass c.loop-pass.block c.loop-pass.decoder c.args.decoder.now b l i.way in
     record {
-      labels = c.requires.labels;
-      turns = c.requires.turns;
+      band = c.requires.band;
       scan = r.now.scan;
       few = omega arith;
       wide = omega arith;
