@@ -1,28 +1,27 @@
 -- What a block's lists show of a word before a pass over it.
-use Rattle.std.proofs.Common.{◌≡◌, ◌≢◌, ◌<◌, ◌≤◌, ◌+◌, ◌-◌, ◌*◌, ◌/◌, ◌%◌, ◌^◌, ◌==◌, ◌||◌, ◌&&◌, not, nat_le, ℕ, min, max, Bool, true, false, refl, sym, ap, ◌∙◌, arith, subst, inl, inr, List, get_or, if◌then◌else◌}
-use Rattle.std.specs.Prelude.{nat_lt}
+use Rattle.std.proofs.Common.{◌≡◌, ◌≤◌, ◌+◌, ◌-◌, ◌*◌, ◌/◌, ◌%◌, ◌^◌, ◌||◌, ◌&&◌, not, nat_le, ℕ, min, Bool, true, false, refl, sym, ap, ◌∙◌, arith, inl, inr, List, get_or}
 use Rattle.std.specs.Int.{bit_at}
-use Rattle.std.proofs.lemmas.Bool.{cases_Bool, cases_lt, le-ltb, lt-ltb, ltb-true, true≢false, and_parts}
+use Rattle.std.proofs.lemmas.Bool.{cases_Bool, cases_lt, le-ltb, lt-ltb, true≢false}
 use Rattle.std.proofs.lemmas.Nat.Bits.{bit_at-zero}
 use Rattle.jx_tier1_specs.specs.declared.coef.Coef.{Coef}
 use Rattle.jx_tier1_specs.specs.declared.question.Plane.{Plane}
-use Rattle.jx_tier1_specs.specs.Cells.{Cells, zero_coef, coef_at, significant}
+use Rattle.jx_tier1_specs.specs.Cells.{Cells, significant}
 use Rattle.jx_tier1_specs.specs.declared.question.Question.{Question}
 use Rattle.jx_tier1_specs.specs.Asking.{told}
 use Rattle.jx_tier1_specs.specs.Near.{one_if}
-use Rattle.jx_tier1_specs.specs.Pass.{is_decided, is_refined}
+use Rattle.jx_tier1_specs.specs.Pass.{is_decided}
 use Rattle.jx_tier1_specs.proofs.GridLemmas.{IsIn, index_in}
 use Rattle.jx_tier1_specs.proofs.StepLemmas.{no_bits}
-use Rattle.jx_tier1.specs.Blocks.{BlockWords, bit_in, Draws, Sees, wide_for}
-use Rattle.jx_tier1.specs.BlockPasses.{is_more, IsDrawn, IsVisited, AreVisited, IsMidway}
+use Rattle.jx_tier1.specs.Blocks.{BlockWords, Draws, Sees, wide_for}
+use Rattle.jx_tier1.specs.BlockPasses.{IsMidway}
 use Rattle.jx_tier1.specs.Marks.{mark}
 use Rattle.jx_tier1.specs.Places.{IsWord, of_nine}
 use Rattle.jx_tier1.specs.Sights.{IsSight}
 use Rattle.jx_tier1.specs.Walking.{IsNow}
 use Rattle.jx_tier1.specs.WordPasses.{Picks, in_word, coef_in, IsDue, BeforeSignificance, BeforeRefinement, BeforeCleanup}
-use Rattle.jx_tier1.specs.WordScan.{has_place, word_pass}
+use Rattle.jx_tier1.specs.WordScan.{word_pass}
 use Rattle.jx_tier1.proofs.BlockBits.{IsWordAt, IsOwn, bit_there}
-use Rattle.jx_tier1.proofs.DueWords.{IsPlaceOf, place_of}
+use Rattle.jx_tier1.proofs.DueWords.{place_of}
 use Rattle.jx_tier1.proofs.FlagLemmas.{flag, is_marked, any, marks_drawn, sees_marks, flag_there, there_or_not, outside}
 use Rattle.jx_tier1.proofs.GroupLemmas.{HasWord}
 use Rattle.jx_tier1.proofs.SightLemmas.{shown, not_five}

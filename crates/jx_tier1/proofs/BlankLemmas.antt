@@ -1,16 +1,16 @@
 -- A block of which nothing was decided, and its words.
-use Rattle.std.proofs.Common.{◌≡◌, ◌<◌, ◌≤◌, ◌+◌, ◌-◌, ◌*◌, ◌/◌, ◌%◌, ◌==◌, ◌||◌, ℕ, zero, suc, Bool, true, false, refl, sym, ap, ◌∙◌, arith, subst, inl, inr, List, get_or, replicate, if◌then◌else◌}
+use Rattle.std.proofs.Common.{◌≡◌, ◌+◌, ◌-◌, ◌*◌, ◌/◌, ◌%◌, ℕ, zero, suc, Bool, false, refl, sym, ap, ◌∙◌, inl, inr, get_or, replicate, if◌then◌else◌}
 use Rattle.std.specs.Prelude.{nat_lt}
 use Rattle.std.specs.Int.{bit_at}
 use Rattle.std.proofs.lemmas.Bool.{cases_Bool}
 use Rattle.std.proofs.lemmas.Nat.Bits.{bit_at-zero}
 use Rattle.jx_tier1_specs.specs.declared.coef.Coef.{Coef}
-use Rattle.jx_tier1_specs.specs.Cells.{Cells, zero_coef, coef_at, significant}
+use Rattle.jx_tier1_specs.specs.Cells.{zero_coef, coef_at}
 use Rattle.jx_tier1_specs.specs.Near.{one_if}
 use Rattle.jx_tier1_specs.specs.Reading.{zeros}
 use Rattle.jx_tier1_specs.proofs.PassBackLemmas.{zero_at}
-use Rattle.jx_tier1.specs.Blocks.{BlockWords, bit_in, Draws, wide_for, count_for, blank}
-use Rattle.jx_tier1.specs.BlockPasses.{is_more, IsVisited, Shows}
+use Rattle.jx_tier1.specs.Blocks.{bit_in, Draws, wide_for, count_for, blank}
+use Rattle.jx_tier1.specs.BlockPasses.{is_more, Shows}
 use Rattle.jx_tier1.specs.Marks.{is_outside}
 use Rattle.jx_tier1.proofs.FlagLemmas.{flag, is_marked, is_negative, draws_marks, draws_signs}
 use Rattle.jx_tier1.proofs.MoreLemmas.{none_more}

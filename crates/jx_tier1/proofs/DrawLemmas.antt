@@ -1,10 +1,10 @@
 -- Windows of lists of words.
-use Rattle.std.proofs.Common.{◌≡◌, ◌<◌, ◌≤◌, ◌+◌, ◌-◌, ◌*◌, ◌/◌, ◌%◌, ◌==◌, ◌&&◌, ℕ, zero, suc, Bool, true, false, refl, sym, ap, ◌∙◌, arith, subst, inl, inr, if◌then◌else◌, List, get_or}
+use Rattle.std.proofs.Common.{◌≡◌, ◌<◌, ◌+◌, ◌-◌, ◌*◌, ◌/◌, ◌%◌, ◌==◌, ◌&&◌, ℕ, zero, suc, Bool, true, false, refl, sym, ap, ◌∙◌, arith, subst, inl, inr, if◌then◌else◌, List, get_or}
 use Rattle.std.specs.Int.{bit_at}
 use Rattle.std.proofs.lemmas.Bool.{cases_eq, eq-eqb, ne_eqb}
 use Rattle.std.proofs.lemmas.Nat.Bits.{bit_at-zero}
 use Rattle.std.proofs.Math.Nat.{mul-le-mul_right}
-use Rattle.jx_tier1.specs.Places.{IsWord, AreColumns, six_of, in_window}
+use Rattle.jx_tier1.specs.Places.{AreColumns, six_of, in_window}
 use Rattle.jx_tier1.specs.Blocks.{bit_in, Draws, seen_if, Sees}
 use Rattle.jx_tier1.proofs.BitLemmas.{bit_shl, bit_shr}
 

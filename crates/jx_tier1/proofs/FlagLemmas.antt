@@ -1,19 +1,17 @@
 -- Marks and signs of coefficients that a pass over a word changes, and the lists that show them.
-use Rattle.std.proofs.Common.{◌≡◌, ◌≢◌, ◌<◌, ◌≤◌, ◌+◌, ◌-◌, ◌*◌, ◌/◌, ◌%◌, ◌==◌, ◌||◌, ◌&&◌, ℕ, min, Bool, true, false, refl, sym, ap, ◌∙◌, arith, subst, inl, inr, List, get_or, set, if◌then◌else◌}
+use Rattle.std.proofs.Common.{◌≡◌, ◌<◌, ◌≤◌, ◌+◌, ◌-◌, ◌*◌, ◌/◌, ◌%◌, ◌==◌, ◌||◌, ◌&&◌, ℕ, min, Bool, true, false, sym, ap, ◌∙◌, arith, subst, inl, inr, List, get_or, set, if◌then◌else◌}
 use Rattle.std.specs.Prelude.{nat_lt}
 use Rattle.std.specs.Int.{bit_at}
-use Rattle.std.proofs.lemmas.Bool.{cases_Bool, cases_lt, lt-ltb, le-ltb}
+use Rattle.std.proofs.lemmas.Bool.{cases_Bool, cases_lt, lt-ltb}
 use Rattle.std.proofs.lemmas.Bool.Decides.{nat_tests}
 use Rattle.jx_tier1_specs.specs.declared.coef.Coef.{Coef}
-use Rattle.jx_tier1_specs.specs.declared.question.Plane.{Plane}
 use Rattle.jx_tier1_specs.specs.Cells.{Cells, zero_coef, coef_at, significant}
 use Rattle.jx_tier1_specs.specs.Near.{one_if}
-use Rattle.jx_tier1.specs.Blocks.{bit_in, Draws, Sees}
+use Rattle.jx_tier1.specs.Blocks.{Draws, Sees}
 use Rattle.jx_tier1.specs.Marks.{mark, minus, is_outside}
 use Rattle.jx_tier1.specs.WordPasses.{in_word, Picks}
-use Rattle.jx_tier1.specs.WordScan.{has_place}
 use Rattle.jx_tier1.proofs.BlockBits.{IsWordAt, IsOwn, draws_put}
-use Rattle.jx_tier1.proofs.MarkLemmas.{IsInside, not_inside, inside_not, one_le}
+use Rattle.jx_tier1.proofs.MarkLemmas.{not_inside, inside_not, one_le}
 use Rattle.jx_tier1.proofs.SightLemmas.{shown, not_five}
 use Rattle.jx_tier1.proofs.WordMoves.{Moves}
 use Rattle.jx_tier1.proofs.WordScanLemmas.{place_there}
@@ -149,14 +147,14 @@ there_or_not g x y c r A l m f h =
       | inl p ↦ elim (cases_lt (y + r) g.height) [
         | inl q ↦ f (record { has = word_there g x y c r l m p q; column = p; row = q })
         | inr q ↦ h (record {
-            has = no_word_row (i % 6) 4 (x + i / 6) g.width (y + i % 6) g.height i (omega arith);
-            outside = no_row g.width g.height (x + (c + 1)) (y + (r + 1)) (omega arith);
-          })
+          has = no_word_row (i % 6) 4 (x + i / 6) g.width (y + i % 6) g.height i (omega arith);
+          outside = no_row g.width g.height (x + (c + 1)) (y + (r + 1)) (omega arith);
+        })
       ]
       | inr p ↦ h (record {
-          has = no_word (i % 6) 4 (x + i / 6) g.width (y + i % 6) g.height i (omega arith);
-          outside = no_column g.width g.height (x + (c + 1)) (y + (r + 1)) (omega arith);
-        })
+        has = no_word (i % 6) 4 (x + i / 6) g.width (y + i % 6) g.height i (omega arith);
+        outside = no_column g.width g.height (x + (c + 1)) (y + (r + 1)) (omega arith);
+      })
     ]
 
 abbrev pub any : Coef → Bool

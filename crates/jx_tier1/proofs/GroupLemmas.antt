@@ -1,32 +1,25 @@
 -- A pass over a word of a block: what is known before it, and what its lists show after it.
-use Rattle.std.proofs.Common.{◌≡◌, ◌≢◌, ◌<◌, ◌≤◌, ◌+◌, ◌-◌, ◌*◌, ◌/◌, ◌%◌, ◌==◌, ◌||◌, ◌&&◌, not, ℕ, zero, suc, min, max, Bool, true, false, refl, sym, ap, ◌∙◌, arith, subst, inl, inr, length, List, get_or, set, if◌then◌else◌}
+use Rattle.std.proofs.Common.{◌≡◌, ◌<◌, ◌+◌, ◌*◌, ◌/◌, ◌%◌, ◌&&◌, ℕ, min, Bool, refl, sym, ap, ◌∙◌, arith, subst, List, set}
 use Rattle.std.specs.Prelude.{nat_lt}
 use Rattle.std.specs.Int.{bit_at}
-use Rattle.std.proofs.lemmas.Bool.{cases_Bool, cases_lt, le-ltb, lt-ltb, true≢false}
-use Rattle.std.proofs.lemmas.Nat.Bits.{bit_at-lt}
 use Rattle.jx_tier1_specs.specs.declared.coef.Coef.{Coef}
 use Rattle.jx_tier1_specs.specs.declared.question.Plane.{Plane}
 use Rattle.jx_tier1_specs.specs.declared.question.Question.{Question}
-use Rattle.jx_tier1_specs.specs.Cells.{Cells, zero_coef, coef_at, significant}
+use Rattle.jx_tier1_specs.specs.Cells.{Cells, coef_at}
 use Rattle.jx_tier1_specs.specs.Near.{one_if}
 use Rattle.jx_tier1_specs.specs.Asking.{told}
-use Rattle.jx_tier1_specs.specs.Pass.{is_decided, is_refined}
-use Rattle.jx_tier1_specs.proofs.GridLemmas.{IsIn, index_in}
-use Rattle.jx_tier1_specs.proofs.StepLemmas.{no_bits}
-use Rattle.jx_tier1.specs.Blocks.{BlockWords, HasLists, bit_in, Draws, Sees, wide_for, count_for, place_in}
-use Rattle.jx_tier1.specs.BlockPasses.{is_more, IsDrawn, IsVisited, AreVisited, IsMidway, ComesTo}
-use Rattle.jx_tier1.specs.Marks.{mark, minus}
-use Rattle.jx_tier1.specs.Places.{IsWord}
+use Rattle.jx_tier1_specs.specs.Pass.{is_decided}
+use Rattle.jx_tier1.specs.Blocks.{BlockWords, HasLists, bit_in, wide_for, count_for, place_in}
+use Rattle.jx_tier1.specs.BlockPasses.{IsDrawn, IsMidway, ComesTo}
 use Rattle.jx_tier1.specs.Sights.{IsSight, EndsIn}
 use Rattle.jx_tier1.specs.Walking.{IsNow}
-use Rattle.jx_tier1.specs.WordPasses.{Picks, in_word, coef_in, BeforeSignificance, AfterSignificance, BeforeRefinement, BeforeCleanup}
+use Rattle.jx_tier1.specs.WordPasses.{Picks, in_word, AfterSignificance}
 use Rattle.jx_tier1.specs.WordScan.{word_pass}
 use Rattle.jx_tier1.proofs.BlockBits.{IsWordAt}
-use Rattle.jx_tier1.proofs.DueWords.{IsPlaceOf, place_of}
-use Rattle.jx_tier1.proofs.FlagLemmas.{flag, is_marked, is_negative, any, draws_marks, marks_drawn, draws_signs, signs_drawn, sees_marks, sees_signs, flags_put, flag_there, draws_same, pair_at, there_or_not, outside}
-use Rattle.jx_tier1.proofs.MoreLemmas.{KeepsMore, keeps_more, Refines, refines}
-use Rattle.jx_tier1.proofs.VisitLemmas.{HasBit, word_visited, own_visited, bit_of_place, place_here, place_there_in, place_elsewhere, picked}
-use Rattle.jx_tier1.proofs.WordMoves.{Moves, StepsTo, IsStep, moves_same, significance_moves, refinement_moves, cleanup_moves, word_moves}
+use Rattle.jx_tier1.proofs.FlagLemmas.{is_marked, is_negative, any, draws_marks, marks_drawn, draws_signs, signs_drawn, sees_marks, sees_signs, flags_put, pair_at}
+use Rattle.jx_tier1.proofs.MoreLemmas.{KeepsMore, keeps_more}
+use Rattle.jx_tier1.proofs.VisitLemmas.{word_visited, bit_of_place, place_here, place_elsewhere, picked}
+use Rattle.jx_tier1.proofs.WordMoves.{Moves, IsStep, moves_same, significance_moves, cleanup_moves, word_moves}
 
 -- a word of a block's lists
 pub record HasWord (b : BlockWords) (s t at : ℕ) : Type 0 where

@@ -1,5 +1,5 @@
 -- Words at which a refinement or a cleanup pass asks nothing.
-use Rattle.std.proofs.Common.{◌≡◌, ◌<◌, ◌≤◌, ◌+◌, ◌*◌, ◌/◌, ◌%◌, ◌==◌, ◌||◌, ◌&&◌, not, ℕ, Bool, true, false, refl, sym, ap, ◌∙◌, arith, subst, inl, inr, if◌then◌else◌}
+use Rattle.std.proofs.Common.{◌≡◌, ◌<◌, ◌≤◌, ◌+◌, ◌/◌, ◌%◌, ◌==◌, ◌||◌, ◌&&◌, not, ℕ, Bool, true, false, refl, sym, ap, ◌∙◌, arith, subst, inl, inr, if◌then◌else◌}
 use Rattle.std.specs.Int.{bit_at}
 use Rattle.std.proofs.lemmas.Bool.{cases_Bool, le-ltb, true≢false}
 use Rattle.std.proofs.lemmas.Nat.Bits.{bit_at-zero}
@@ -7,8 +7,8 @@ use Rattle.jx_tier1_specs.specs.declared.question.Plane.{Plane}
 use Rattle.jx_tier1_specs.specs.declared.question.Question.{Question}
 use Rattle.jx_tier1_specs.specs.Cells.{Cells, coef_at, significant}
 use Rattle.jx_tier1_specs.specs.Near.{one_if}
-use Rattle.jx_tier1_specs.specs.Asking.{Told, Ask, told}
-use Rattle.jx_tier1_specs.specs.Pass.{is_decided, refinement_at, usual_at, bit_of, is_run, run_at, cleanup_at}
+use Rattle.jx_tier1_specs.specs.Asking.{Told, told}
+use Rattle.jx_tier1_specs.specs.Pass.{is_decided, usual_at, bit_of, is_run, run_at}
 use Rattle.jx_tier1_specs.proofs.RunBackLemmas.{is_one}
 use Rattle.jx_tier1.specs.WordPasses.{Picks, in_word, coef_in}
 use Rattle.jx_tier1.specs.WordScan.{pass_at_bit, word_pass}

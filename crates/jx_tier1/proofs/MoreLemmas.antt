@@ -1,16 +1,16 @@
 -- Which coefficients were refined, as a pass goes on.
-use Rattle.std.proofs.Common.{◌≡◌, ◌<◌, ◌≤◌, ◌+◌, ◌-◌, ◌*◌, ◌/◌, ◌%◌, ◌^◌, ◌==◌, nat_le, nat_lt, ℕ, suc, Bool, true, false, not, refl, sym, ap, ◌∙◌, arith, subst, inl, inr, if◌then◌else◌}
-use Rattle.std.proofs.lemmas.Bool.{cases_lt, cases_Bool, lt-ltb, le-ltb, le-leb, true≢false}
+use Rattle.std.proofs.Common.{◌≡◌, ◌<◌, ◌≤◌, ◌+◌, ◌-◌, ◌*◌, ◌/◌, ◌%◌, ◌^◌, ◌==◌, ℕ, suc, Bool, true, false, not, refl, sym, ap, ◌∙◌, arith, subst, inl, inr, if◌then◌else◌}
+use Rattle.std.proofs.lemmas.Bool.{cases_lt, cases_Bool, lt-ltb, le-leb, true≢false}
 use Rattle.std.proofs.lemmas.Nat.{div-mul-add, mod-mul-add, pow_pos, div-add-mod'}
 use Rattle.std.proofs.Math.Nat.{zero-div, div-lt_iff_lt-mul, two-pow-succ}
 use Rattle.jx_tier1_specs.specs.declared.coef.Coef.{Coef}
 use Rattle.jx_tier1_specs.specs.declared.question.Plane.{Plane}
 use Rattle.jx_tier1_specs.specs.Cells.{significant}
-use Rattle.jx_tier1_specs.specs.Pass.{shift_of, is_decided, is_refined, with_bit, with_sign}
+use Rattle.jx_tier1_specs.specs.Pass.{shift_of, is_decided, with_bit, with_sign}
 use Rattle.jx_tier1_specs.proofs.FrontLemmas.{IsClean}
 use Rattle.jx_tier1_specs.proofs.StepLemmas.{no_bits}
 use Rattle.jx_tier1.specs.BlockPasses.{is_more}
-use Rattle.jx_tier1.proofs.WordMoves.{IsPath, TakesZeros, TakesMore}
+use Rattle.jx_tier1.proofs.WordMoves.{TakesZeros, TakesMore}
 
 -- an insignificant one wasn't
 pub none_more : (planes : ℕ) (c : Coef) → c.bits ≡ 0 → is_more planes c ≡ false

@@ -1,11 +1,9 @@
 -- A walk over marks, place after place, column after column, stripe after stripe.
-use Rattle.std.proofs.Common.{◌≡◌, ◌<◌, ◌≤◌, ◌+◌, ◌-◌, ◌*◌, ◌/◌, ◌%◌, ℕ, zero, suc, min, Bool, refl, sym, ap, ◌∙◌, arith, subst, inl, inr, get_or}
-use Rattle.std.proofs.lemmas.Bool.{cases_eq}
-use Rattle.std.proofs.Math.Nat.{mul-le-mul_right, mul-le-mul_left}
+use Rattle.std.proofs.Common.{◌≡◌, ◌<◌, ◌≤◌, ◌+◌, ◌*◌, ℕ, zero, suc, Bool, refl, sym, ◌∙◌, arith, subst}
 use Rattle.jx_tier1_specs.specs.declared.question.Plane.{Plane}
 use Rattle.jx_tier1_specs.specs.declared.question.Question.{Question}
 use Rattle.jx_tier1_specs.specs.Cells.{Cells}
-use Rattle.jx_tier1_specs.specs.Asking.{Asking, Told, and_then, told}
+use Rattle.jx_tier1_specs.specs.Asking.{Asking, and_then, told}
 use Rattle.jx_tier1_specs.specs.Pass.{scan_column, scan_row, pass_at, pass_at_nth, scanned}
 use Rattle.jx_tier1_specs.proofs.DoneLemmas.{AreNeat, place_neat}
 use Rattle.jx_tier1_specs.proofs.GridLemmas.{IsIn}
@@ -14,9 +12,7 @@ use Rattle.jx_tier1_specs.proofs.PassBackLemmas.{place_back}
 use Rattle.jx_tier1_specs.proofs.PhaseLemmas.{at_next}
 use Rattle.jx_tier1_specs.proofs.Scanning.{column_inside, row_inside}
 use Rattle.jx_tier1_specs.proofs.Told.{told_then}
-use Rattle.jx_tier1.specs.Numbers.{first_of}
 use Rattle.jx_tier1.specs.Walking.{IsNow}
-use Rattle.jx_tier1.proofs.ScanLemmas.{nth_is, scanned_then}
 
 -- coefficients that go on within the plane
 pub record IsAfter (k : Plane) (g v : Cells) : Type 0 where
@@ -55,4 +51,3 @@ scan_after {S = S} ask pass k (suc count) n g s w l =
     let P : Cells × S → Type 0 = λ u. IsAfter k g u.0 in
     let e : told ask (and_then t more) s ≡ told ask (more v) z = told_then ask t more s in
     subst P (sym e) (record { now = b.now; width = b.width ∙ a.width; height = b.height ∙ a.height })
-

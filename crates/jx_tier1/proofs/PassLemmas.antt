@@ -1,10 +1,9 @@
 -- Passes of a block, one after the other: what its lists show between them.
-use Rattle.std.proofs.Common.{◌≡◌, ◌<◌, ◌≤◌, ◌+◌, ◌-◌, ◌*◌, ◌/◌, ◌%◌, ◌==◌, ℕ, zero, suc, Bool, refl, sym, ap, ◌∙◌, arith, subst, inl, inr, if◌then◌else◌}
-use Rattle.std.proofs.lemmas.Bool.{cases_eq}
+use Rattle.std.proofs.Common.{◌≡◌, ◌≤◌, ◌+◌, ◌*◌, ◌/◌, ◌%◌, ◌==◌, ℕ, zero, suc, Bool, refl, sym, ap, ◌∙◌, arith, subst, if◌then◌else◌}
 use Rattle.jx_tier1_specs.specs.declared.question.Plane.{Plane}
 use Rattle.jx_tier1_specs.specs.declared.question.Question.{Question}
 use Rattle.jx_tier1_specs.specs.Cells.{Cells, coef_at}
-use Rattle.jx_tier1_specs.specs.Asking.{Asking, Told, and_then, told}
+use Rattle.jx_tier1_specs.specs.Asking.{Asking, told}
 use Rattle.jx_tier1_specs.specs.Pass.{significance_at, refinement_at, cleanup_at, pass_at, pass_at_nth, scan_column, scan_row, scanned}
 use Rattle.jx_tier1_specs.proofs.Told.{told_then}
 use Rattle.jx_tier1.specs.Blocks.{BlockWords, bit_in, wide_for}

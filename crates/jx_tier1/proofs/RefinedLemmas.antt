@@ -1,12 +1,12 @@
 -- A refinement pass over a word of a block: what its lists show after it.
-use Rattle.std.proofs.Common.{◌≡◌, ◌≢◌, ◌<◌, ◌≤◌, ◌+◌, ◌-◌, ◌*◌, ◌/◌, ◌%◌, ◌==◌, ◌||◌, ◌&&◌, not, ℕ, zero, suc, min, max, Bool, true, false, refl, sym, ap, ◌∙◌, arith, subst, inl, inr, List, get_or, set, if◌then◌else◌}
+use Rattle.std.proofs.Common.{◌≡◌, ◌<◌, ◌≤◌, ◌+◌, ◌*◌, ◌/◌, ◌%◌, ◌==◌, ◌&&◌, not, ℕ, zero, suc, max, Bool, true, false, refl, sym, ap, ◌∙◌, arith, subst, inl, inr, get_or, set}
 use Rattle.std.specs.Prelude.{nat_lt}
 use Rattle.std.specs.Int.{bit_at}
 use Rattle.std.proofs.lemmas.Bool.{cases_Bool, cases_eq, lt-ltb, true≢false}
 use Rattle.jx_tier1_specs.specs.declared.coef.Coef.{Coef}
 use Rattle.jx_tier1_specs.specs.declared.question.Plane.{Plane}
 use Rattle.jx_tier1_specs.specs.declared.question.Question.{Question}
-use Rattle.jx_tier1_specs.specs.Cells.{Cells, zero_coef, coef_at, with_coef, significant}
+use Rattle.jx_tier1_specs.specs.Cells.{Cells, coef_at, significant}
 use Rattle.jx_tier1_specs.specs.Near.{one_if}
 use Rattle.jx_tier1_specs.specs.Asking.{Asking, Told, told}
 use Rattle.jx_tier1_specs.specs.Pass.{is_decided, with_bit, refinement_at, pass_at}
@@ -23,8 +23,8 @@ use Rattle.jx_tier1.proofs.FlagLemmas.{is_marked, is_negative, draws_marks, mark
 use Rattle.jx_tier1.proofs.GroupLemmas.{HasWord}
 use Rattle.jx_tier1.proofs.MarkLemmas.{one_le}
 use Rattle.jx_tier1.proofs.MoreLemmas.{Refines, refines}
-use Rattle.jx_tier1.proofs.VisitLemmas.{HasBit, word_visited, bit_of_place, place_here, place_there_in, place_elsewhere, picked}
-use Rattle.jx_tier1.proofs.WordMoves.{Moves, IsStep, IsAmong, StepsTo, refinement_moves, placed, among_bit, bit_step, bits_move, word_moves}
+use Rattle.jx_tier1.proofs.VisitLemmas.{word_visited, bit_of_place, place_here, place_there_in, place_elsewhere, picked}
+use Rattle.jx_tier1.proofs.WordMoves.{IsStep, IsAmong, refinement_moves, placed, among_bit, bit_step, bits_move, word_moves}
 use Rattle.jx_tier1.proofs.WordScanLemmas.{at_place, place_there}
 
 refinement_steps : (k : Plane) (t s : ℕ) → k.number < k.planes → IsStep 2 k (Refines k) t s

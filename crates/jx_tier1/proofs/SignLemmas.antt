@@ -1,9 +1,9 @@
 -- The signs of neighbours, by what a window shows of them.
-use Rattle.std.proofs.Common.{◌≡◌, ◌≤◌, ◌+◌, ◌-◌, ◌*◌, ◌/◌, ◌%◌, ◌==◌, ◌&&◌, ◌||◌, ℕ, Bool, true, false, not, refl, sym, ap, ◌∙◌, arith, if◌then◌else◌}
+use Rattle.std.proofs.Common.{◌≡◌, ◌+◌, ◌-◌, ◌%◌, ◌==◌, ◌&&◌, ◌||◌, ℕ, Bool, true, false, not, refl, sym, if◌then◌else◌}
 use Rattle.std.proofs.lemmas.Bool.{true≢false}
 use Rattle.jx_tier1_specs.specs.declared.coef.Coef.{Coef}
 use Rattle.jx_tier1_specs.specs.Cells.{Cells, zero_coef, coef_at, significant}
-use Rattle.jx_tier1_specs.specs.Near.{one_at, coef_near, across_of, down_of, leaning}
+use Rattle.jx_tier1_specs.specs.Near.{coef_near, across_of, down_of, leaning}
 use Rattle.jx_tier1.specs.Marks.{is_outside}
 use Rattle.jx_tier1.specs.Signs.{leaned}
 use Rattle.jx_tier1.proofs.MarkLemmas.{IsInside, not_inside}

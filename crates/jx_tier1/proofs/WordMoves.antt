@@ -1,6 +1,6 @@
 -- What a pass over a word does to the coefficients.
-use Rattle.std.proofs.Common.{◌≡◌, ◌≢◌, ◌<◌, ◌≤◌, ◌+◌, ◌-◌, ◌*◌, ◌/◌, ◌%◌, ◌==◌, ◌||◌, ◌&&◌, not, ℕ, zero, suc, Bool, true, false, refl, sym, ap, ◌∙◌, arith, subst, inl, inr, length, List, get_or, set, if◌then◌else◌}
-use Rattle.std.proofs.lemmas.Bool.{cases_Bool, cases_eq, true≢false, and_parts, eqb-true}
+use Rattle.std.proofs.Common.{◌≡◌, ◌≢◌, ◌<◌, ◌≤◌, ◌+◌, ◌*◌, ◌/◌, ◌%◌, ◌==◌, ◌||◌, ◌&&◌, not, ℕ, zero, suc, Bool, true, false, refl, sym, ap, ◌∙◌, arith, subst, inl, inr, length, List, get_or, set, if◌then◌else◌}
+use Rattle.std.proofs.lemmas.Bool.{cases_Bool, cases_eq, true≢false, eqb-true}
 use Rattle.std.proofs.lemmas.List.{get_or-set_same, get_or-set_other, length-set}
 use Rattle.jx_tier1_specs.specs.declared.coef.Coef.{Coef}
 use Rattle.jx_tier1_specs.specs.declared.question.Plane.{Plane}
@@ -19,7 +19,7 @@ use Rattle.jx_tier1.specs.Walking.{IsNow}
 use Rattle.jx_tier1.specs.WordScan.{has_place, pass_at_bit, bits_scanned, word_pass}
 use Rattle.jx_tier1.proofs.MarkLemmas.{same_place}
 use Rattle.jx_tier1.proofs.DueWords.{IsPlaceOf, place_of, some_place}
-use Rattle.jx_tier1.proofs.PaceLemmas.{IsAfter, place_after}
+use Rattle.jx_tier1.proofs.PaceLemmas.{place_after}
 use Rattle.jx_tier1.proofs.WordScanLemmas.{at_place, at_no_place}
 
 -- all coefficients but those of a word stay, by its group and stripe, and a relation holds of each one and what becomes of it

@@ -39,8 +39,8 @@ impl Model for BlockState {
     } };
 
     ghost invariant = { λ b. (length b.significant.items ≡ count_for b.width b.height) × (length b.negative.items ≡ count_for b.width b.height)
-      × (length b.visited.items ≡ count_for b.width b.height) × (length b.refined.items ≡ count_for b.width b.height)
-      × AreWords b.significant.items × AreWords b.negative.items };
+        × (length b.visited.items ≡ count_for b.width b.height) × (length b.refined.items ≡ count_for b.width b.height)
+        × AreWords b.significant.items × AreWords b.negative.items };
 }
 
 /// A word of a list.

@@ -11,11 +11,11 @@ ghost use Rattle.jx_tier1.specs.Blocks.{BlockWords};
 ghost use Rattle.jx_tier1.specs.BlockPasses.{Shows, HasSizeOf, Ends};
 ghost use Rattle.jx_tier1.specs.Walking.{IsNow};
 
-use crate::half::Half;
 use crate::block::BlockState;
 use crate::contexts::Tables;
-use crate::questions::plane_for;
+use crate::half::Half;
 use crate::passes::walk_pass;
+use crate::questions::plane_for;
 use jx_base::{Band, NoMemory, Style};
 use jx_tier1_specs::{Question, Source};
 use std::marker::Model;

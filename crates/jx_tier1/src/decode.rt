@@ -8,9 +8,9 @@ ghost use Rattle.jx_tier1.specs.Blocks.{blank};
 ghost use Rattle.jx_tier1_specs.specs.Short.{AreShort};
 
 use crate::FlagGrid;
-use crate::decoder::Decoder;
-use crate::contexts::Tables;
 use crate::block::BlockState;
+use crate::contexts::Tables;
+use crate::decoder::Decoder;
 use crate::noter::Noter;
 use jx_base::{Band, NoMemory};
 use jx_mq::Contexts;
@@ -104,14 +104,7 @@ fn run<'a>(
     ensures within { OnOk result (AreWithin coded.now.planes coded.now.planes decoder.new.cells) }
 {
     for pass in 0..coded.passes {
-        decoder.pass(
-            block,
-            tables,
-            coded.band,
-            coded.style,
-            coded.planes,
-            pass,
-        )?;
+        decoder.pass(block, tables, coded.band, coded.style, coded.planes, pass)?;
     }
     Ok(())
 }

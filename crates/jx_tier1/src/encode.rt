@@ -12,9 +12,9 @@ ghost use Rattle.jx_tier1_specs.specs.Writing.{fresh_writing, finished_from};
 ghost use Rattle.jx_tier1_specs.specs.Encoding.{Encoding};
 
 use crate::FlagGrid;
-use crate::encoder::Encoder;
-use crate::contexts::Tables;
 use crate::block::BlockState;
+use crate::contexts::Tables;
+use crate::encoder::Encoder;
 use crate::writer::Writer;
 use jx_base::{Band, NoMemory, Style, is_raw};
 use std::alloc::Global;

@@ -15,8 +15,8 @@ ghost use Rattle.jx_tier1_specs.specs.Encoding.{Encoding, renewed_writing, after
 
 use crate::block::BlockState;
 use crate::contexts::Tables;
-use crate::questions::plane_for;
 use crate::passes::walk_pass;
+use crate::questions::plane_for;
 use crate::writer::Writer;
 use jx_base::{Band, NoMemory, Style, ends_segment, is_raw};
 use jx_tier1_specs::ask_symbol;

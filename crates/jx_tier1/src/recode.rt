@@ -10,9 +10,9 @@ ghost use Rattle.jx_tier1.specs.Blocks.{BlockWords, blank};
 ghost use Rattle.jx_tier1.specs.Placing.{placed};
 ghost use Rattle.jx_tier1_specs.specs.Short.{AreShort};
 
-use crate::copier::Copier;
-use crate::contexts::Tables;
 use crate::block::BlockState;
+use crate::contexts::Tables;
+use crate::copier::Copier;
 use crate::pen::Pen;
 use crate::recoder::Recoder;
 use jx_base::{NoMemory, Style, is_raw};

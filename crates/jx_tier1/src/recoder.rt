@@ -15,12 +15,12 @@ ghost use Rattle.jx_tier1_specs.specs.Writing.{fresh_writing, segment_by};
 ghost use Rattle.jx_tier1_specs.specs.Short.{AreShort};
 ghost use Rattle.jx_tier1_specs.specs.Ends.{stand_of, end_in};
 
-use crate::copier::Copier;
-use crate::ends::tell;
 use crate::block::BlockState;
 use crate::contexts::Tables;
-use crate::questions::plane_for;
+use crate::copier::Copier;
+use crate::ends::tell;
 use crate::passes::walk_pass;
+use crate::questions::plane_for;
 use jx_base::{Band, NoMemory, Style, ends_segment, is_raw};
 use jx_tier1_specs::{Stand, ask_symbol};
 use std::alloc::Global;

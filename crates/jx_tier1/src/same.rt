@@ -9,10 +9,10 @@ ghost use Rattle.jx_tier1_specs.specs.Short.{AreShort};
 ghost use Rattle.jx_tier1.specs.Beside.{pair_of};
 ghost use Rattle.jx_tier1.specs.Blocks.{blank};
 
-use crate::comparer::Comparer;
-use crate::half::Half;
-use crate::contexts::Tables;
 use crate::block::BlockState;
+use crate::comparer::Comparer;
+use crate::contexts::Tables;
+use crate::half::Half;
 use jx_base::{NoMemory, Style};
 use jx_tier1_specs::Coded;
 use std::alloc::Global;

@@ -1,4 +1,4 @@
-use Rattle.std.proofs.Common.{ℕ, Bool, subst, sym, get_or, if◌then◌else◌, ◌+◌, ◌-◌, arith}
+use Rattle.std.proofs.Common.{ℕ, subst, sym, get_or, if◌then◌else◌, ◌+◌, ◌-◌}
 use Rattle.jx_tier1.specs.Places.{IsWord, AreColumns}
 use Rattle.jx_tier1.proofs.block.columns_at.Goals as goal
 

@@ -1,16 +1,16 @@
-use Rattle.std.proofs.Common.{◌≡◌, ◌<◌, ◌+◌, ◌-◌, ◌*◌, ◌/◌, ◌∙◌, ◌||◌, not, ℕ, min, refl, sym, ap, arith, subst, set, get_or}
+use Rattle.std.proofs.Common.{◌≡◌, ◌+◌, ◌-◌, ◌*◌, ◌∙◌, ◌||◌, not, ℕ, min, sym, ap, arith, subst, get_or}
 use Rattle.std.specs.Int.{bit_at}
 use Rattle.jx_tier1_specs.specs.Asking.{told}
-use Rattle.jx_tier1_specs.specs.Cells.{Cells, significant}
+use Rattle.jx_tier1_specs.specs.Cells.{significant}
 use Rattle.jx_tier1_specs.specs.Pass.{is_decided}
-use Rattle.jx_tier1.specs.Blocks.{BlockWords, Sees, wide_for}
-use Rattle.jx_tier1.specs.BlockPasses.{IsMidway, ComesTo}
+use Rattle.jx_tier1.specs.Blocks.{BlockWords}
+use Rattle.jx_tier1.specs.BlockPasses.{ComesTo}
 use Rattle.jx_tier1.specs.Marks.{mark, minus}
 use Rattle.jx_tier1.specs.Sights.{IsSight}
 use Rattle.jx_tier1.specs.WordPasses.{Picks}
 use Rattle.jx_tier1.specs.WordScan.{word_pass}
 use Rattle.jx_tier1.proofs.BeforeLemmas.{left_picked, before_cleanup}
-use Rattle.jx_tier1.proofs.GroupLemmas.{HasWord, has_word, cleanup_comes, cleanup_rests}
+use Rattle.jx_tier1.proofs.GroupLemmas.{has_word, cleanup_comes, cleanup_rests}
 use Rattle.jx_tier1.proofs.IdleLemmas.{cleanup_idle}
 use Rattle.jx_tier1.proofs.passes.cleanup_group.Goals as goal
 

@@ -1,17 +1,17 @@
-use Rattle.std.proofs.Common.{◌≡◌, ◌<◌, ◌+◌, ◌-◌, ◌*◌, ◌/◌, ◌∙◌, ◌&&◌, not, ℕ, min, max, refl, sym, ap, arith, subst, set, get_or, bit_or}
+use Rattle.std.proofs.Common.{◌≡◌, ◌+◌, ◌-◌, ◌*◌, ◌∙◌, ◌&&◌, not, ℕ, min, refl, sym, ap, arith, subst, get_or, bit_or}
 use Rattle.std.specs.Int.{bit_at}
 use Rattle.jx_tier1_specs.specs.Asking.{told}
-use Rattle.jx_tier1_specs.specs.Cells.{Cells, significant}
+use Rattle.jx_tier1_specs.specs.Cells.{significant}
 use Rattle.jx_tier1_specs.specs.Pass.{is_decided}
-use Rattle.jx_tier1.specs.Blocks.{BlockWords, Sees, wide_for}
-use Rattle.jx_tier1.specs.BlockPasses.{IsMidway, ComesTo}
+use Rattle.jx_tier1.specs.Blocks.{BlockWords}
+use Rattle.jx_tier1.specs.BlockPasses.{ComesTo}
 use Rattle.jx_tier1.specs.Marks.{mark}
 use Rattle.jx_tier1.specs.Places.{IsWord}
 use Rattle.jx_tier1.specs.WordPasses.{Picks}
 use Rattle.jx_tier1.specs.WordScan.{word_pass}
 use Rattle.jx_tier1.proofs.BeforeLemmas.{due_picked, before_refinement}
 use Rattle.jx_tier1.proofs.BitLemmas.{or_bit}
-use Rattle.jx_tier1.proofs.GroupLemmas.{HasWord, has_word, refinement_rests}
+use Rattle.jx_tier1.proofs.GroupLemmas.{has_word, refinement_rests}
 use Rattle.jx_tier1.proofs.IdleLemmas.{refinement_idle}
 use Rattle.jx_tier1.proofs.RefinedLemmas.{refinement_comes}
 use Rattle.jx_tier1.proofs.passes.refinement_group.Goals as goal

@@ -1,9 +1,8 @@
-use Rattle.std.proofs.Common.{◌≡◌, ◌<◌, ◌+◌, ◌-◌, ◌*◌, ◌/◌, ◌∙◌, ℕ, min, refl, sym, ap, arith, subst, set, bit_and}
+use Rattle.std.proofs.Common.{◌≡◌, ◌+◌, ◌-◌, ◌*◌, ◌/◌, ◌∙◌, ℕ, min, refl, sym, ap, arith, subst, set, bit_and}
 use Rattle.std.specs.Int.{bit_at}
 use Rattle.jx_tier1_specs.specs.Asking.{told}
-use Rattle.jx_tier1_specs.specs.Cells.{Cells}
-use Rattle.jx_tier1.specs.Blocks.{BlockWords, Sees, wide_for}
-use Rattle.jx_tier1.specs.BlockPasses.{IsMidway, ComesTo}
+use Rattle.jx_tier1.specs.Blocks.{BlockWords}
+use Rattle.jx_tier1.specs.BlockPasses.{ComesTo}
 use Rattle.jx_tier1.specs.Marks.{mark, minus}
 use Rattle.jx_tier1.specs.Places.{of_nine}
 use Rattle.jx_tier1.specs.Sights.{IsSight}
@@ -11,7 +10,7 @@ use Rattle.jx_tier1.specs.WordScan.{word_pass}
 use Rattle.jx_tier1.proofs.BeforeLemmas.{before_significance, significance_idle}
 use Rattle.jx_tier1.proofs.BitLemmas.{bit_shr, and_bit}
 use Rattle.std.proofs.lemmas.Nat.Bits.{bit_at-zero}
-use Rattle.jx_tier1.proofs.GroupLemmas.{HasWord, has_word, put_in, significance_comes, significance_rests}
+use Rattle.jx_tier1.proofs.GroupLemmas.{has_word, significance_comes, significance_rests}
 use Rattle.jx_tier1.proofs.passes.significance_group.Goals as goal
 
 -- the places behind the window's first column and row

@@ -1,4 +1,4 @@
-use Rattle.std.proofs.Common.{◌≡◌, ◌+◌, ◌/◌, ◌%◌, arith}
+use Rattle.std.proofs.Common.{◌≡◌, ◌%◌, arith}
 use Rattle.std.proofs.lemmas.Result.{on_ok_weaker}
 use Rattle.jx_tier1.proofs.PassLemmas.{midway_of, ends_within, ends_plane}
 use Rattle.jx_tier1.proofs.passes.walk_pass.Goals as goal

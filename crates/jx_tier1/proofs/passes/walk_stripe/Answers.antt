@@ -1,4 +1,4 @@
-use Rattle.std.proofs.Common.{◌≡◌, ◌+◌, ◌*◌, ◌/◌, ◌%◌, ◌∙◌, ap, refl, sym, arith, ℕ}
+use Rattle.std.proofs.Common.{◌+◌, ◌%◌, ◌∙◌, refl, arith}
 use Rattle.jx_tier1.proofs.GroupPace.{words_none, group_walked, stripe_done}
 use Rattle.jx_tier1.proofs.passes.walk_stripe.Goals as goal
 

@@ -1,4 +1,4 @@
-use Rattle.std.proofs.Common.{◌≡◌, ◌+◌, ◌*◌, ◌/◌, ◌%◌, ◌∙◌, ap, refl, sym, arith, ℕ}
+use Rattle.std.proofs.Common.{◌+◌, ◌%◌, ◌∙◌, refl, arith}
 use Rattle.jx_tier1.proofs.GroupPace.{stripes_none, stripe_walked, stripes_done}
 use Rattle.jx_tier1.proofs.passes.walk_stripes.Goals as goal
 

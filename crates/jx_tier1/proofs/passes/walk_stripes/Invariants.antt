@@ -1,4 +1,4 @@
-use Rattle.std.proofs.Common.{◌+◌, ◌*◌, ◌%◌}
+use Rattle.std.proofs.Common.{◌+◌, ◌%◌}
 use Rattle.jx_tier1_specs.specs.Cells.{Cells}
 use Rattle.jx_tier1_specs.specs.Asking.{told}
 use Rattle.jx_tier1_specs.specs.Pass.{scanned}

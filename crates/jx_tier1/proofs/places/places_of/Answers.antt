@@ -1,4 +1,4 @@
-use Rattle.std.proofs.Common.{◌≡◌, ◌≤◌, ◌<◌, ◌-◌, ◌*◌, ◌∙◌, ap, sym, min, arith, ℕ}
+use Rattle.std.proofs.Common.{◌-◌, ◌*◌, ◌∙◌, ap, sym, min, arith, ℕ}
 use Rattle.jx_tier1.proofs.PlaceMasks.{AreRows, block_places, block_word}
 use Rattle.jx_tier1.proofs.places.places_of.Goals as goal
 

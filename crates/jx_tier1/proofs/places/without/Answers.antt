@@ -1,4 +1,4 @@
-use Rattle.std.proofs.Common.{◌-◌, arith}
+use Rattle.std.proofs.Common.{◌-◌}
 use Rattle.jx_tier1.proofs.PlaceMasks.{without_bits, word_first}
 use Rattle.jx_tier1.proofs.places.without.Goals as goal
 
