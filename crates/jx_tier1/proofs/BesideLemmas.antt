@@ -12,8 +12,9 @@ use Rattle.jx_tier1_specs.specs.Alike.{AreAlike}
 use Rattle.jx_tier1_specs.proofs.GridLemmas.{IsFront, AreClean}
 use Rattle.jx_tier1_specs.proofs.BackLemmas.{tree_of}
 use Rattle.jx_tier1.specs.Beside.{HalfValue, Pair, Agree, AreBeside, both_answer, half_read, half_opened, half_begun, half_ended, pair_begun, pair_ended, half_of, pair_of}
-use Rattle.jx_tier1.specs.Notes.{Marking, Shows}
-use Rattle.jx_tier1.specs.Walking.{Ends, IsNow}
+use Rattle.jx_tier1.specs.Blocks.{BlockWords}
+use Rattle.jx_tier1.specs.BlockPasses.{Shows, Ends}
+use Rattle.jx_tier1.specs.Walking.{IsNow}
 use Rattle.jx_tier1.proofs.AnswerLemmas.{AnswersAs, pass_shows}
 use Rattle.jx_tier1.proofs.CopyLemmas.{alike_tree}
 use Rattle.jx_tier1.proofs.ReadingLemmas.{opened_cells}
@@ -98,10 +99,10 @@ read_on c pass d =
     }
 
 -- both, from where two decodings agree
-both_on : (c d : Coding) (pass : ℕ) (a b : Decoding) (m : Marking) → AreAlike c d → b.cells ≡ a.cells
+both_on : (c d : Coding) (pass : ℕ) (a b : Decoding) (m : BlockWords) → AreAlike c d → b.cells ≡ a.cells
     → IsScan (plane_of c.band (is_causal c.style) c.planes pass) → AreClean c.planes ((pass + 2) / 3 + 1) a.cells
     → (p : Pair) → p ≡ pair_begun c.style d.style pass (pair_of a b)
-    → Shows c.planes (told both_answer (tree_of c pass a.cells) p).0 m
+    → Shows c.planes (pass + 1) (told both_answer (tree_of c pass a.cells) p).0 m
     → AreBeside c d pass a b m (pair_ended c.style d.style pass (told both_answer (tree_of c pass a.cells) p).1)
 both_on c d pass a b m h cells scan clean p begun shown =
     let t : Asking Cells = tree_of c pass a.cells in
@@ -129,7 +130,7 @@ both_on c d pass a b m h cells scan clean p begun shown =
                 ∙ (ap (λ (x : HalfValue). record { one = half_of (read_pass c pass a); two = x; alike = (told both_answer t p).1.alike }) second_half
                 ∙ ap (λ (x : Bool). record { one = half_of (read_pass c pass a); two = half_of (read_pass d pass b); alike = x }) e);
             cells = sym second_cells ∙ first_cells;
-            marks = subst (λ (x : Cells). Shows c.planes x m) first_cells shown;
+            block = subst (λ (x : Cells). Shows c.planes (pass + 1) x m) first_cells shown;
           };
       unlike = λ e g u v.
           let A = λ (x : HalfValue). AnswersAs read_answer g t x.reading in
@@ -141,13 +142,13 @@ both_on c d pass a b m h cells scan clean p begun shown =
           absurd (cc);
     }
 
-pub pass_beside : (c d : Coding) (pass : ℕ) (a b : Decoding) (m n : Marking) (old begun walked now : Pair) → AreAlike c d → Agree c.planes a b m old
+pub pass_beside : (c d : Coding) (pass : ℕ) (a b : Decoding) (m n : BlockWords) (old begun walked now : Pair) → AreAlike c d → Agree c.planes pass a b m old
     → IsNow (plane_of c.band (is_causal c.style) c.planes pass) a.cells → begun ≡ pair_begun c.style d.style pass old
-    → Ends c.planes (told both_answer (scanned pass (plane_of c.band (is_causal c.style) c.planes pass) (a.cells.width * a.cells.height) 0 a.cells) begun) n walked
+    → Ends c.planes (pass + 1) (told both_answer (scanned pass (plane_of c.band (is_causal c.style) c.planes pass) (a.cells.width * a.cells.height) 0 a.cells) begun) n walked
     → now ≡ pair_ended c.style d.style pass walked → AreBeside c d pass a b n now
 unfolding pass_of
 pass_beside c d pass a b m n old begun walked now h g w e k l =
     let P = λ (x : Pair). AreBeside c d pass a b n x in
     let F = λ (x : Pair). pair_ended c.style d.style pass x in
     subst P (sym (l ∙ ap F k.source))
-    (both_on c d pass a b n h g.cells w.scan w.at.clean begun (e ∙ ap (λ (x : Pair). pair_begun c.style d.style pass x) g.pair) k.marks)
+    (both_on c d pass a b n h g.cells w.scan w.at.clean begun (e ∙ ap (λ (x : Pair). pair_begun c.style d.style pass x) g.pair) k.block)

@@ -13,16 +13,16 @@ use Rattle.jx_tier1_specs.proofs.PassBackLemmas.{pass_back, clean_more, one_scan
 use Rattle.jx_tier1_specs.proofs.ReadMore.{read_more, read_done}
 use Rattle.jx_tier1_specs.proofs.WholeLemmas.{Phase, phase_next, zeros_at}
 use Rattle.jx_tier1.specs.Beside.{Pair, Agree, AreBeside, pair_of}
-use Rattle.jx_tier1.specs.Notes.{Marking, unmarked}
+use Rattle.jx_tier1.specs.Blocks.{BlockWords, blank}
 use Rattle.jx_tier1.specs.Walking.{IsNow}
 use Rattle.jx_tier1.proofs.ReadingLemmas.{opened_cells}
-use Rattle.jx_tier1.proofs.ShowLemmas.{shows_zeros}
+use Rattle.jx_tier1.proofs.BlankLemmas.{shows_blank}
 
 -- before a pass: both decoded the same so far, and go on to what is decoded of them
-pub record AreOnWay (c d : Coding) (w h passes pass : ℕ) (m : Marking) (now : Pair) (ss ts : List (List ℕ)) : Type 0 where
+pub record AreOnWay (c d : Coding) (w h passes pass : ℕ) (m : BlockWords) (now : Pair) (ss ts : List (List ℕ)) : Type 0 where
   pub one : Decoding
   pub two : Decoding
-  pub agree : Agree c.planes one two m now
+  pub agree : Agree c.planes pass one two m now
   pub phase : Phase c w h pass one.cells
   pub first : read_from c (passes - pass) pass one ≡ decoded w h c ss passes
   pub second : read_from d (passes - pass) pass two ≡ decoded w h d ts passes
@@ -31,18 +31,18 @@ from_start : (c : Coding) (w h passes : ℕ) (ss : List (List ℕ)) → read_fro
 unfolding decoded
 from_start c w h passes ss = let z : passes - 0 ≡ passes = omega arith in ap (λ (n : ℕ). read_from c n 0 (at_start w h ss)) z
 
-pub both_begun : (c d : Coding) (w h passes : ℕ) (m : Marking) (now : Pair) (ss ts : List (List ℕ)) → m ≡ unmarked w h → now ≡ pair_of (at_start w h ss) (at_start w h ts)
+pub both_begun : (c d : Coding) (w h passes : ℕ) (m : BlockWords) (now : Pair) (ss ts : List (List ℕ)) → m ≡ blank w h → now ≡ pair_of (at_start w h ss) (at_start w h ts)
     → AreOnWay c d w h passes 0 m now ss ts
 both_begun c d w h passes m now ss ts e s = record {
   one = at_start w h ss;
   two = at_start w h ts;
-  agree = record { pair = s; cells = refl; marks = rw e (shows_zeros c.planes w h) };
+  agree = record { pair = s; cells = refl; block = rw e (shows_blank c.planes w h) };
   phase = zeros_at c w h;
   first = from_start c w h passes ss;
   second = from_start d w h passes ts;
 }
 
-pub both_now : (c d : Coding) (w h passes pass : ℕ) (m : Marking) (now : Pair) (ss ts : List (List ℕ)) → HasPasses c passes → pass < passes
+pub both_now : (c d : Coding) (w h passes pass : ℕ) (m : BlockWords) (now : Pair) (ss ts : List (List ℕ)) → HasPasses c passes → pass < passes
     → (o : AreOnWay c d w h passes pass m now ss ts) → IsNow (plane_of c.band (is_causal c.style) c.planes pass) o.one.cells
 both_now c d w h passes pass m now ss ts b l o =
     let a = o.phase.here in
@@ -59,7 +59,7 @@ after_pass c w h passes pass d b l p =
     let q : Phase c w h pass o.cells = subst (λ (x : Cells). Phase c w h pass x) (sym (opened_cells c.style pass d)) p in
     leaves_told read_answer (tree_of c pass o.cells) P (renewed c.style o.reading) (phase_next c w h pass o.cells (one_scan c pass passes b l) q)
 
-pub both_next : (c d : Coding) (w h passes pass : ℕ) (m n : Marking) (now next : Pair) (ss ts : List (List ℕ)) → HasPasses c passes → pass < passes
+pub both_next : (c d : Coding) (w h passes pass : ℕ) (m n : BlockWords) (now next : Pair) (ss ts : List (List ℕ)) → HasPasses c passes → pass < passes
     → (o : AreOnWay c d w h passes pass m now ss ts) → AreBeside c d pass o.one o.two n next → next.alike ≡ true → AreOnWay c d w h passes (pass + 1) n next ss ts
 both_next c d w h passes pass m n now next ss ts b l o s e = record {
   one = read_pass c pass o.one;
@@ -70,7 +70,7 @@ both_next c d w h passes pass m n now next ss ts b l o s e = record {
   second = sym (read_more d passes pass o.two l) ∙ o.second;
 }
 
-pub both_done : (c d : Coding) (w h passes pass : ℕ) (m : Marking) (now : Pair) (ss ts : List (List ℕ)) → passes ≤ pass → AreOnWay c d w h passes pass m now ss ts
+pub both_done : (c d : Coding) (w h passes pass : ℕ) (m : BlockWords) (now : Pair) (ss ts : List (List ℕ)) → passes ≤ pass → AreOnWay c d w h passes pass m now ss ts
     → (decoded w h c ss passes).cells ≡ (decoded w h d ts passes).cells
 both_done c d w h passes pass m now ss ts l o =
     let C = λ (x : Decoding). x.cells in
@@ -91,7 +91,7 @@ to_end c passes pass d b l a =
     (clean_more c.planes most ((pass + 1 + 1) / 3 + 1) (read_pass c pass d).cells (omega arith) back.clean) in
     subst (λ (x : Decoding). IsFront c.planes (read_pass c pass d).cells x.cells) (sym (read_more c passes pass d l)) more.front
 
-pub both_stopped : (c d : Coding) (w h passes pass : ℕ) (m n : Marking) (now next : Pair) (ss ts : List (List ℕ)) → HasPasses c passes → AreAlike c d → pass < passes
+pub both_stopped : (c d : Coding) (w h passes pass : ℕ) (m n : BlockWords) (now next : Pair) (ss ts : List (List ℕ)) → HasPasses c passes → AreAlike c d → pass < passes
     → (o : AreOnWay c d w h passes pass m now ss ts) → AreBeside c d pass o.one o.two n next → next.alike ≡ false
     → (decoded w h c ss passes).cells ≡ (decoded w h d ts passes).cells → ⊥
 both_stopped c d w h passes pass m n now next ss ts b k l o s e same =

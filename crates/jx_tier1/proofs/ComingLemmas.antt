@@ -16,18 +16,19 @@ use Rattle.jx_tier1_specs.proofs.PhaseLemmas.{leaves_followed}
 use Rattle.jx_tier1_specs.proofs.WholeLemmas.{Phase, phase_next, zeros_at}
 use Rattle.jx_tier1_specs.proofs.WroteLemmas.{pass_wrote, step_kind, step_target, step_more, step_end}
 use Rattle.jx_tier1.specs.InStep.{no_grid}
-use Rattle.jx_tier1.specs.Notes.{Marking, Shows, unmarked}
+use Rattle.jx_tier1.specs.Blocks.{BlockWords, blank}
+use Rattle.jx_tier1.specs.BlockPasses.{Shows, Ends}
 use Rattle.jx_tier1.specs.Placing.{coded_in, Comes}
-use Rattle.jx_tier1.specs.Walking.{Ends, IsNow}
-use Rattle.jx_tier1.proofs.ShowLemmas.{shows_zeros}
+use Rattle.jx_tier1.specs.Walking.{IsNow}
+use Rattle.jx_tier1.proofs.BlankLemmas.{shows_blank}
 
 -- a pass's own decisions
-bits_come : (c : Coding) (pass : ℕ) (e now : Encoding) (g : Cells) (m : Marking) → now ≡ record e { writing = now.writing }
-    → Ends c.planes (told write_answer (scanned pass (plane_of c.band (is_causal c.style) c.planes pass) (g.width * g.height) 0 g) (renewed_writing c.style e.writing)) m now.writing
-    → Comes c.planes (after_bits c pass (coded_in g e)) m now
+bits_come : (c : Coding) (pass : ℕ) (e now : Encoding) (g : Cells) (m : BlockWords) → now ≡ record e { writing = now.writing }
+    → Ends c.planes (pass + 1) (told write_answer (scanned pass (plane_of c.band (is_causal c.style) c.planes pass) (g.width * g.height) 0 g) (renewed_writing c.style e.writing)) m now.writing
+    → Comes c.planes (pass + 1) (after_bits c pass (coded_in g e)) m now
 unfolding pass_of
 bits_come c pass e now g m h k = record {
-  marks = k.marks;
+  block = k.block;
   encoding = ap (λ (x : Encoding). coded_in no_grid x) h ∙ ap (λ (w : Writing). record e { cells = no_grid; writing = w }) k.source;
 }
 
@@ -69,11 +70,11 @@ rest_cells c last pass e =
     ∙ symbol_cells (ends_by_symbol c.style pass) e (told write_answer symbol_asked e.writing).1
 
 -- a pass
-pub pass_comes : (c : Coding) (last : Bool) (pass : ℕ) (e b s n : Encoding) (g : Cells) (m : Marking) → e.writing.raw ≡ raw_pass c.style pass
+pub pass_comes : (c : Coding) (last : Bool) (pass : ℕ) (e b s n : Encoding) (g : Cells) (m : BlockWords) → e.writing.raw ≡ raw_pass c.style pass
     → b ≡ record e { writing = b.writing }
-    → Ends c.planes (told write_answer (scanned pass (plane_of c.band (is_causal c.style) c.planes pass) (g.width * g.height) 0 g) (renewed_writing c.style e.writing)) m b.writing
+    → Ends c.planes (pass + 1) (told write_answer (scanned pass (plane_of c.band (is_causal c.style) c.planes pass) (g.width * g.height) 0 g) (renewed_writing c.style e.writing)) m b.writing
     → s ≡ after_symbol c.style pass b → n ≡ (if end_pass c.style pass || last then closed c.style pass s else s)
-    → Comes c.planes (after_step c last pass (coded_in g e)) m n
+    → Comes c.planes (pass + 1) (after_step c last pass (coded_in g e)) m n
 pass_comes c last pass e b s n g m k h w i j =
     let B : Encoding = after_bits c pass (coded_in g e) in
     let a = bits_come c pass e b g m h w in
@@ -86,7 +87,7 @@ pass_comes c last pass e b s n g m k h w i j =
     ap (λ (x : Encoding). coded_in no_grid x) o
     ∙ (sym (rest_apart c last pass no_grid b) ∙ (ap R a.encoding ∙ rest_apart c last pass no_grid B)) in
     record {
-      marks = subst (λ (x : Cells). Shows c.planes x m) (sym u) a.marks;
+      block = subst (λ (x : Cells). Shows c.planes (pass + 1) x m) (sym u) a.block;
       encoding = v ∙ ap (λ (x : Encoding). coded_in no_grid x) q;
     }
 
@@ -94,28 +95,28 @@ pass_comes c last pass e b s n g m k h w i j =
 abbrev all_from : Coding → ℕ → ℕ → Cells → Encoding → List (List ℕ)
 all_from c count pass target e = e.done ++ finished_from c.style pass e.writing (needs_from c target count pass e.cells)
 
-pub record IsComing (c : Coding) (w h passes pass : ℕ) (m : Marking) (now start : Encoding) : Type 0 where
+pub record IsComing (c : Coding) (w h passes pass : ℕ) (m : BlockWords) (now start : Encoding) : Type 0 where
   pub cells : Cells
-  pub shows : Shows c.planes cells m
+  pub shows : Shows c.planes pass cells m
   pub phase : Phase c w h pass cells
   pub target : now.writing.target ≡ start.writing.target
   pub kind : now.writing.raw ≡ raw_pass c.style pass
   pub so_far : all_from c (passes - pass) pass start.writing.target (coded_in cells now) ≡ all_from c passes 0 start.writing.target (coded_in (zeros w h) start)
 
-pub coming_begun : (c : Coding) (w h passes : ℕ) (m : Marking) (e : Encoding) → m ≡ unmarked w h → e.writing.raw ≡ raw_pass c.style 0
+pub coming_begun : (c : Coding) (w h passes : ℕ) (m : BlockWords) (e : Encoding) → m ≡ blank w h → e.writing.raw ≡ raw_pass c.style 0
     → IsComing c w h passes 0 m e e
 coming_begun c w h passes m e u k =
     let z : passes - 0 ≡ passes = omega arith in
     record {
       cells = zeros w h;
-      shows = rw u (shows_zeros c.planes w h);
+      shows = rw u (shows_blank c.planes w h);
       phase = zeros_at c w h;
       target = refl;
       kind = k;
       so_far = ap (λ (n : ℕ). all_from c n 0 e.writing.target (coded_in (zeros w h) e)) z;
     }
 
-pub coming_now : (c : Coding) (w h passes pass : ℕ) (m : Marking) (now start : Encoding) → HasPasses c passes → pass < passes
+pub coming_now : (c : Coding) (w h passes pass : ℕ) (m : BlockWords) (now start : Encoding) → HasPasses c passes → pass < passes
     → (o : IsComing c w h passes pass m now start) → IsNow (plane_of c.band (is_causal c.style) c.planes pass) o.cells
 coming_now c w h passes pass m now start b l o =
     let a = o.phase.here in
@@ -124,8 +125,8 @@ coming_now c w h passes pass m now start b l o =
       at = record { width = refl; height = refl; clean = a.clean; least = a.least; neat = a.neat };
     }
 
-pub coming_next : (c : Coding) (w h passes pass : ℕ) (m n : Marking) (now next start : Encoding) → HasPasses c passes → pass < passes
-    → (o : IsComing c w h passes pass m now start) → Comes c.planes (after_step c (pass + 1 == passes) pass (coded_in o.cells now)) n next
+pub coming_next : (c : Coding) (w h passes pass : ℕ) (m n : BlockWords) (now next start : Encoding) → HasPasses c passes → pass < passes
+    → (o : IsComing c w h passes pass m now start) → Comes c.planes (pass + 1) (after_step c (pass + 1 == passes) pass (coded_in o.cells now)) n next
     → IsComing c w h passes (pass + 1) n next start
 coming_next c w h passes pass m n now next start b l o g =
     let e : Encoding = coded_in o.cells now in
@@ -140,13 +141,13 @@ coming_next c w h passes pass m n now next start b l o g =
     let d : coded_in r.cells next ≡ r = ap (λ (x : Encoding). coded_in r.cells x) g.encoding in
     record {
       cells = r.cells;
-      shows = g.marks;
+      shows = g.block;
       phase = subst P f p;
       target = ap (λ (x : Writing). x.target) v ∙ (step_target c (pass + 1 == passes) pass e ∙ o.target);
       kind = ap (λ (x : Writing). x.raw) v ∙ step_kind c (pass + 1 == passes) pass e o.kind;
       so_far = ap (λ (x : Encoding). all_from c (passes - (pass + 1)) (pass + 1) t x) d ∙ (step_more c t passes pass e l o.target ∙ o.so_far);
     }
 
-pub coming_done : (c : Coding) (w h passes pass : ℕ) (m : Marking) (now start : Encoding) → passes ≤ pass → IsComing c w h passes pass m now start
+pub coming_done : (c : Coding) (w h passes pass : ℕ) (m : BlockWords) (now start : Encoding) → passes ≤ pass → IsComing c w h passes pass m now start
     → now.done ≡ start.done ++ finished_from c.style 0 start.writing (needs_from c start.writing.target passes 0 (zeros w h))
 coming_done c w h passes pass m now start l o = sym (step_end c start.writing.target passes pass (coded_in o.cells now) l) ∙ o.so_far

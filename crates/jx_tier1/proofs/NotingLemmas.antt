@@ -17,9 +17,9 @@ use Rattle.jx_tier1_specs.proofs.RunLemmas.{run_quiet}
 use Rattle.jx_tier1_specs.proofs.StepLemmas.{no_bits}
 use Rattle.jx_tier1_specs.proofs.Told.{told_then}
 use Rattle.jx_tier1_specs.proofs.WroteLemmas.{or_false}
-use Rattle.jx_tier1.specs.Notes.{Marking, Shows}
+use Rattle.jx_tier1.specs.Blocks.{BlockWords}
+use Rattle.jx_tier1.specs.BlockPasses.{Shows, Ends}
 use Rattle.jx_tier1.specs.Noting.{Noting, noting, with_more, first_bit, noted_about, note_answer}
-use Rattle.jx_tier1.specs.Walking.{Ends}
 
 -- from these notes a procedure over the coefficients leaves the coefficients in the notes, within their bounds
 record IsNoted (k : Plane) (m : Cells) (t : Asking Cells) (s : Noting) (r : Reading) : Type 0 where
@@ -193,16 +193,16 @@ scan_noted pass k (suc count) n m r s h =
       kept = rw e (kept_next k.planes (k.number + 1) m v (told read_answer (more v) z).0 p.kept i.kept);
     }
 
--- what a pass leaves, as marks show it
-pub record IsRead (c : Coding) (pass : ℕ) (d : Decoding) (m : Marking) (n : Noting) : Type 0 where
+-- what a pass leaves, as the words of a block show it
+pub record IsRead (c : Coding) (pass : ℕ) (d : Decoding) (m : BlockWords) (n : Noting) : Type 0 where
   pub cells : n.cells ≡ (read_bits c pass d).0
   pub reading : n.reading ≡ (read_bits c pass d).1
-  pub shows : Shows c.planes n.cells m
+  pub shows : Shows c.planes (pass + 1) n.cells m
   pub within : AreWithin c.planes ((pass + 2) / 3 + 1) n.cells
 
-pub pass_read : (c : Coding) (pass : ℕ) (d : Decoding) (m : Marking) (n o : Noting) → IsScan (plane_of c.band (is_causal c.style) c.planes pass)
+pub pass_read : (c : Coding) (pass : ℕ) (d : Decoding) (m : BlockWords) (n o : Noting) → IsScan (plane_of c.band (is_causal c.style) c.planes pass)
     → AreWithin c.planes ((pass + 2) / 3 + 1) d.cells → o ≡ noting (plane_of c.band (is_causal c.style) c.planes pass) d.cells (renewed c.style d.reading)
-    → Ends c.planes (told note_answer (scanned pass (plane_of c.band (is_causal c.style) c.planes pass) (d.cells.width * d.cells.height) 0 d.cells) o) m n
+    → Ends c.planes (pass + 1) (told note_answer (scanned pass (plane_of c.band (is_causal c.style) c.planes pass) (d.cells.width * d.cells.height) 0 d.cells) o) m n
     → IsRead c pass d m n
 unfolding pass_of
 pass_read c pass d m n o s h e w =
@@ -218,6 +218,6 @@ pass_read c pass d m n o s h e w =
     record {
       cells = v;
       reading = ap (λ (x : Noting). x.reading) u;
-      shows = subst (λ (x : Cells). Shows c.planes x m) f w.marks;
+      shows = subst (λ (x : Cells). Shows c.planes (pass + 1) x m) f w.block;
       within = subst (λ (x : Cells). AreWithin c.planes ((pass + 2) / 3 + 1) x) (sym v) i.kept.within;
     }

@@ -1,51 +1,12 @@
 -- The signs of neighbours, by what a window shows of them.
-use Rattle.std.proofs.Common.{◌≡◌, ◌≤◌, ◌+◌, ◌-◌, ◌*◌, ◌/◌, ◌%◌, ◌==◌, ◌&&◌, ◌||◌, ℕ, Bool, true, false, not, refl, sym, ap, ◌∙◌, arith, if◌then◌else◌}
+use Rattle.std.proofs.Common.{◌≡◌, ◌+◌, ◌-◌, ◌%◌, ◌==◌, ◌&&◌, ◌||◌, ℕ, Bool, true, false, not, refl, sym, if◌then◌else◌}
 use Rattle.std.proofs.lemmas.Bool.{true≢false}
 use Rattle.jx_tier1_specs.specs.declared.coef.Coef.{Coef}
 use Rattle.jx_tier1_specs.specs.Cells.{Cells, zero_coef, coef_at, significant}
-use Rattle.jx_tier1_specs.specs.Near.{one_at, coef_near, across_of, down_of, leaning}
+use Rattle.jx_tier1_specs.specs.Near.{coef_near, across_of, down_of, leaning}
 use Rattle.jx_tier1.specs.Marks.{is_outside}
-use Rattle.jx_tier1.specs.Windows.{nine}
 use Rattle.jx_tier1.specs.Signs.{leaned}
 use Rattle.jx_tier1.proofs.MarkLemmas.{IsInside, not_inside}
-use Rattle.jx_tier1.proofs.WindowLemmas.{one_le_one, one_tested}
-
--- the digits of the four neighbours that count
-record HasFour (b d f h n : ℕ) : Type 0 where
-  up : n / 2 % 2 ≡ b
-  left : n / 8 % 2 ≡ d
-  right : n / 32 % 2 ≡ f
-  down : n / 128 % 2 ≡ h
-
-four_of : (a b c d e f g h i n : ℕ) → a ≤ 1 → b ≤ 1 → c ≤ 1 → d ≤ 1 → e ≤ 1 → f ≤ 1 → g ≤ 1 → h ≤ 1 → i ≤ 1
-    → n ≡ a + 2 * b + 4 * c + 8 * d + 16 * e + 32 * f + 64 * g + 128 * h + 256 * i → HasFour b d f h n
-four_of a b c d e f g h i n p q r s t u v w x m = record { up = omega arith; left = omega arith; right = omega arith; down = omega arith }
-
-four_at : (g : Cells) (causal : Bool) (x y : ℕ)
-    → HasFour (one_at g causal y (x + 1) y) (one_at g causal y x (y + 1)) (one_at g causal y (x + 2) (y + 1)) (one_at g causal y (x + 1) (y + 2)) (nine g causal x y)
-unfolding nine
-four_at g causal x y =
-    four_of (one_at g causal y x y) (one_at g causal y (x + 1) y) (one_at g causal y (x + 2) y)
-    (one_at g causal y x (y + 1)) (one_at g causal y (x + 1) (y + 1)) (one_at g causal y (x + 2) (y + 1))
-    (one_at g causal y x (y + 2)) (one_at g causal y (x + 1) (y + 2)) (one_at g causal y (x + 2) (y + 2))
-    (one_at g causal y x y + 2 * one_at g causal y (x + 1) y + 4 * one_at g causal y (x + 2) y
-    + 8 * one_at g causal y x (y + 1) + 16 * one_at g causal y (x + 1) (y + 1) + 32 * one_at g causal y (x + 2) (y + 1)
-    + 64 * one_at g causal y x (y + 2) + 128 * one_at g causal y (x + 1) (y + 2) + 256 * one_at g causal y (x + 2) (y + 2))
-    (one_le_one g causal y x y) (one_le_one g causal y (x + 1) y) (one_le_one g causal y (x + 2) y)
-    (one_le_one g causal y x (y + 1)) (one_le_one g causal y (x + 1) (y + 1)) (one_le_one g causal y (x + 2) (y + 1))
-    (one_le_one g causal y x (y + 2)) (one_le_one g causal y (x + 1) (y + 2)) (one_le_one g causal y (x + 2) (y + 2)) refl
-
-pub up_is : (g : Cells) (causal : Bool) (x y : ℕ) → (nine g causal x y / 2 % 2 == 1) ≡ significant (coef_near g causal y (x + 1) y)
-up_is g causal x y = ap (λ (n : ℕ). n == 1) (four_at g causal x y).up ∙ one_tested (significant (coef_near g causal y (x + 1) y))
-
-pub left_is : (g : Cells) (causal : Bool) (x y : ℕ) → (nine g causal x y / 8 % 2 == 1) ≡ significant (coef_near g causal y x (y + 1))
-left_is g causal x y = ap (λ (n : ℕ). n == 1) (four_at g causal x y).left ∙ one_tested (significant (coef_near g causal y x (y + 1)))
-
-pub right_is : (g : Cells) (causal : Bool) (x y : ℕ) → (nine g causal x y / 32 % 2 == 1) ≡ significant (coef_near g causal y (x + 2) (y + 1))
-right_is g causal x y = ap (λ (n : ℕ). n == 1) (four_at g causal x y).right ∙ one_tested (significant (coef_near g causal y (x + 2) (y + 1)))
-
-pub down_is : (g : Cells) (causal : Bool) (x y : ℕ) → (nine g causal x y / 128 % 2 == 1) ≡ significant (coef_near g causal y (x + 1) (y + 2))
-down_is g causal x y = ap (λ (n : ℕ). n == 1) (four_at g causal x y).down ∙ one_tested (significant (coef_near g causal y (x + 1) (y + 2)))
 
 -- what is seen to be significant stands in the block
 inside_seen : (hidden outside : Bool) (c : Coef) → significant (if outside || hidden then zero_coef else c) ≡ true → outside ≡ false

@@ -1,6 +1,6 @@
 -- Two codings of a block that are read beside each other: each question is put to both, under the label that the first one's
 -- coefficients give it (ITU-T T.800, D.3, D.4).
-use Rattle.std.specs.Prelude.{ℕ, ◌≡◌, Bool, true, false, ◌&&◌, List, drop, if◌then◌else◌}
+use Rattle.std.specs.Prelude.{ℕ, ◌≡◌, ◌+◌, Bool, true, false, ◌&&◌, List, drop, if◌then◌else◌}
 use Rattle.std.specs.Bool.{beq}
 use Rattle.jx_base.specs.Passes.{raw_pass}
 use Rattle.jx_tier1_specs.specs.declared.question.Question.{Question}
@@ -8,7 +8,8 @@ use Rattle.jx_tier1_specs.specs.Cells.{Cells}
 use Rattle.jx_tier1_specs.specs.Segments.{begins}
 use Rattle.jx_tier1_specs.specs.Reading.{Reading, Coding, Decoding, fresh_reading, first_segment, renewed, read_answer, read_symbol, read_pass}
 use Rattle.jx_tier1_specs.proofs.GridLemmas.{IsFront}
-use Rattle.jx_tier1.specs.Notes.{Marking, Shows}
+use Rattle.jx_tier1.specs.Blocks.{BlockWords}
+use Rattle.jx_tier1.specs.BlockPasses.{Shows}
 
 -- of one coding the coder, and the segments that weren't begun
 pub record HalfValue : Type 0 where
@@ -65,13 +66,13 @@ half_of d = record { reading = d.reading; rest = d.rest }
 abbrev pub pair_of : Decoding → Decoding → Pair
 pair_of a b = record { one = half_of a; two = half_of b; alike = true }
 
--- two decodings that made the same coefficients, which marks show
-pub record Agree (planes : ℕ) (a b : Decoding) (m : Marking) (now : Pair) : Type 0 where
+-- two decodings that made the same coefficients, which the words of a block show
+pub record Agree (planes pass : ℕ) (a b : Decoding) (m : BlockWords) (now : Pair) : Type 0 where
   pub pair : now ≡ pair_of a b
   pub cells : b.cells ≡ a.cells
-  pub marks : Shows planes a.cells m
+  pub block : Shows planes pass a.cells m
 
 -- after a further pass of both they agree where both answered alike; else there is no grid that both may become
-pub record AreBeside (c d : Coding) (pass : ℕ) (a b : Decoding) (m : Marking) (now : Pair) : Type 0 where
-  pub alike : now.alike ≡ true → Agree c.planes (read_pass c pass a) (read_pass d pass b) m now
+pub record AreBeside (c d : Coding) (pass : ℕ) (a b : Decoding) (m : BlockWords) (now : Pair) : Type 0 where
+  pub alike : now.alike ≡ true → Agree c.planes (pass + 1) (read_pass c pass a) (read_pass d pass b) m now
   pub unlike : now.alike ≡ false → (g : Cells) → IsFront c.planes (read_pass c pass a).cells g → IsFront c.planes (read_pass d pass b).cells g → ⊥

@@ -1,15 +1,17 @@
 -- Inner: no other crate cites these.
 pub mod Beside
+pub mod BlockPasses
+pub mod Blocks
+pub mod Contexts
 pub mod InStep
 pub mod Joined
-pub mod Labels
 pub mod Marks
-pub mod Notes
 pub mod Noting
 pub mod Numbers
-pub mod Signs
+pub mod Places
 pub mod Placing
-pub mod Sixes
-pub mod Turns
+pub mod Sights
+pub mod Signs
 pub mod Walking
-pub mod Windows
+pub mod WordPasses
+pub mod WordScan

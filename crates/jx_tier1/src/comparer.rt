@@ -7,15 +7,15 @@ ghost use Rattle.jx_tier1_specs.specs.Cells.{Cells};
 ghost use Rattle.jx_tier1_specs.specs.Pass.{IsScan, plane_of, scanned};
 ghost use Rattle.jx_tier1_specs.specs.Reading.{Decoding, coding_of};
 ghost use Rattle.jx_tier1.specs.Beside.{Pair, Agree, AreBeside, both_answer, pair_begun, pair_ended};
-ghost use Rattle.jx_tier1.specs.Labels.{AreLabels};
-ghost use Rattle.jx_tier1.specs.Notes.{Marking, Shows, IsOfSize};
-ghost use Rattle.jx_tier1.specs.Turns.{AreTurns};
-ghost use Rattle.jx_tier1.specs.Walking.{Ends, IsNow};
+ghost use Rattle.jx_tier1.specs.Blocks.{BlockWords};
+ghost use Rattle.jx_tier1.specs.BlockPasses.{Shows, HasSizeOf, Ends};
+ghost use Rattle.jx_tier1.specs.Walking.{IsNow};
 
+use crate::block::BlockState;
+use crate::contexts::Tables;
 use crate::half::Half;
-use crate::marks::Marks;
+use crate::passes::walk_pass;
 use crate::questions::plane_for;
-use crate::walk_passes::walk_pass;
 use jx_base::{Band, NoMemory, Style};
 use jx_tier1_specs::{Question, Source};
 use std::marker::Model;
@@ -65,9 +65,8 @@ impl<'a> Comparer<'a> {
     /// A pass's own decisions, of both.
     fn bits(
         &mut self,
-        marks: &mut Marks,
-        labels: &[u8],
-        turns: &[u8],
+        block: &mut BlockState,
+        tables: &Tables,
         band: Band,
         style: Style,
         planes: u8,
@@ -75,16 +74,15 @@ impl<'a> Comparer<'a> {
     ) -> Result<(), NoMemory>
         requires scan { IsScan (plane_of band (is_causal style.bits) planes pass) }
         requires few { pass ≤ 220 }
-        requires labels { AreLabels band labels.now }
-        requires turns { AreTurns turns.now }
-        requires wide { marks.old.width ≤ 1024 }
-        requires high { marks.old.height ≤ 1024 }
-        ensures size { IsOfSize marks.old marks.new }
-        ensures walk { (g : Cells) → Shows planes g marks.old → IsNow (plane_of band (is_causal style.bits) planes pass) g
-            → OnOk result (Ends planes (told both_answer (scanned pass (plane_of band (is_causal style.bits) planes pass) (g.width * g.height) 0 g) self.old) marks.new self.new) }
+        requires band { tables.now ≡ band }
+        requires wide { block.old.width ≤ 1024 }
+        requires high { block.old.height ≤ 1024 }
+        ensures size { HasSizeOf block.old block.new }
+        ensures walk { (g : Cells) → Shows planes pass g block.old → IsNow (plane_of band (is_causal style.bits) planes pass) g
+            → OnOk result (Ends planes (pass + 1) (told both_answer (scanned pass (plane_of band (is_causal style.bits) planes pass) (g.width * g.height) 0 g) self.old) block.new self.new) }
     {
         let plane = plane_for(band, style, planes, pass);
-        walk_pass(self, marks, labels, turns, plane, pass)?;
+        walk_pass(self, block, tables, plane, pass)?;
         Ok(())
     }
 
@@ -100,28 +98,26 @@ impl<'a> Comparer<'a> {
     /// The next pass of the block, in the styles of both, which agree on causal contexts.
     pub fn pass(
         &mut self,
-        marks: &mut Marks,
-        labels: &[u8],
-        turns: &[u8],
+        block: &mut BlockState,
+        tables: &Tables,
         band: Band,
         one: Style,
         two: Style,
         planes: u8,
         pass: u16,
     ) -> Result<(), NoMemory>
-        requires labels { AreLabels band labels.now }
-        requires turns { AreTurns turns.now }
         requires scan { IsScan (plane_of band (is_causal one.bits) planes pass) }
         requires few { pass ≤ 220 }
         requires causal { is_causal two.bits ≡ is_causal one.bits }
-        requires wide { marks.old.width ≤ 1024 }
-        requires high { marks.old.height ≤ 1024 }
-        ensures size { IsOfSize marks.old marks.new }
-        ensures beside { (a b : Decoding) → Agree planes a b marks.old self.old → IsNow (plane_of band (is_causal one.bits) planes pass) a.cells
-            → OnOk result (AreBeside (coding_of band one.bits planes) (coding_of band two.bits planes) pass a b marks.new self.new) }
+        requires band { tables.now ≡ band }
+        requires wide { block.old.width ≤ 1024 }
+        requires high { block.old.height ≤ 1024 }
+        ensures size { HasSizeOf block.old block.new }
+        ensures beside { (a b : Decoding) → Agree planes pass a b block.old self.old → IsNow (plane_of band (is_causal one.bits) planes pass) a.cells
+            → OnOk result (AreBeside (coding_of band one.bits planes) (coding_of band two.bits planes) pass a b block.new self.new) }
     {
         self.begin(one, two, pass);
-        self.bits(marks, labels, turns, band, one, planes, pass)?;
+        self.bits(block, tables, band, one, planes, pass)?;
         self.end(one, two, pass)?;
         Ok(())
     }

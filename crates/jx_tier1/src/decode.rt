@@ -4,17 +4,14 @@ ghost use Rattle.std.specs.Prelude.{◌≡◌, ◌-◌, ◌*◌, ◌^◌, ◌<�
 ghost use Rattle.jx_tier1_specs.specs.Cells.{Cells, AreWithin};
 ghost use Rattle.jx_tier1_specs.specs.Segments.{bytes_of};
 ghost use Rattle.jx_tier1_specs.specs.Reading.{Decoding, coding_of, at_start, read_from, decoded, zeros};
-ghost use Rattle.jx_tier1.specs.Labels.{AreLabels};
-ghost use Rattle.jx_tier1.specs.Notes.{unmarked};
-ghost use Rattle.jx_tier1.specs.Turns.{AreTurns};
+ghost use Rattle.jx_tier1.specs.Blocks.{blank};
 ghost use Rattle.jx_tier1_specs.specs.Short.{AreShort};
 
 use crate::FlagGrid;
+use crate::block::BlockState;
+use crate::contexts::Tables;
 use crate::decoder::Decoder;
-use crate::labels::labels_of;
-use crate::marks::Marks;
 use crate::noter::Noter;
-use crate::turns::turns_of;
 use jx_base::{Band, NoMemory};
 use jx_mq::Contexts;
 use jx_tier1_specs::{BadSymbol, Coded, Plane, Reader};
@@ -89,40 +86,30 @@ fn end(decoder: Decoder) -> FlagDecoded
 /// Decodes the passes of a block.
 fn run<'a>(
     decoder: &mut Decoder<'a>,
-    marks: &mut Marks,
-    labels: &[u8],
-    turns: &[u8],
+    block: &mut BlockState,
+    tables: &Tables,
     coded: &Coded,
 ) -> Result<(), NoMemory>
-    requires labels { AreLabels coded.now.band labels.now }
-    requires turns { AreTurns turns.now }
     requires some { 1 ≤ coded.now.planes }
     requires planes { coded.now.planes ≤ 74 }
     requires passes { coded.now.passes ≤ 3 * coded.now.planes - 2 }
-    requires fresh { marks.old ≡ unmarked marks.old.width marks.old.height }
-    requires wide { marks.old.width ≤ 1024 }
-    requires high { marks.old.height ≤ 1024 }
-    requires cells { decoder.old.cells ≡ zeros marks.old.width marks.old.height }
+    requires fresh { block.old ≡ blank block.old.width block.old.height }
+    requires band { tables.now ≡ coded.now.band }
+    requires wide { block.old.width ≤ 1024 }
+    requires high { block.old.height ≤ 1024 }
+    requires cells { decoder.old.cells ≡ zeros block.old.width block.old.height }
     requires rest { AreShort decoder.old.rest }
     ensures decoding { OnOk result (decoder.new ≡
         read_from (coding_of coded.now.band coded.now.style.bits coded.now.planes) coded.now.passes 0 decoder.old) }
     ensures within { OnOk result (AreWithin coded.now.planes coded.now.planes decoder.new.cells) }
 {
     for pass in 0..coded.passes {
-        decoder.pass(
-            marks,
-            labels,
-            turns,
-            coded.band,
-            coded.style,
-            coded.planes,
-            pass,
-        )?;
+        decoder.pass(block, tables, coded.band, coded.style, coded.planes, pass)?;
     }
     Ok(())
 }
 
-/// The same from tables of labels and from marks that it makes.
+/// The same with tables and words of a block that it makes.
 fn run_block<'a>(
     decoder: &mut Decoder<'a>,
     alloc: Global,
@@ -141,10 +128,9 @@ fn run_block<'a>(
         read_from (coding_of coded.now.band coded.now.style.bits coded.now.planes) coded.now.passes 0 decoder.old) }
     ensures within { OnOk result (AreWithin coded.now.planes coded.now.planes decoder.new.cells) }
 {
-    let labels = labels_of(alloc, coded.band)?;
-    let turns = turns_of(alloc)?;
-    let mut marks = Marks::new(alloc, width, height)?;
-    run(decoder, &mut marks, &labels, &turns, coded)
+    let tables = Tables::new(alloc, coded.band)?;
+    let mut block = BlockState::new(alloc, width, height)?;
+    run(decoder, &mut block, &tables, coded)
 }
 
 /// The coefficients of a block of at most 1,024 by 1,024 places, from its coded passes (T.800, Annex

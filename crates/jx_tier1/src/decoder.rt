@@ -5,17 +5,17 @@ ghost use Rattle.jx_tier1_specs.specs.Cells.{Cells, AreWithin};
 ghost use Rattle.jx_tier1_specs.specs.Pass.{IsScan, plane_of};
 ghost use Rattle.jx_tier1_specs.specs.Segments.{begins};
 ghost use Rattle.jx_tier1_specs.specs.Reading.{Decoding, coding_of, first_segment, opened, read_bits, read_symbol, looked_of, read_within, read_pass, first_wrong};
-ghost use Rattle.jx_tier1.specs.Labels.{AreLabels};
-ghost use Rattle.jx_tier1.specs.Notes.{Marking, Shows, IsOfSize};
-ghost use Rattle.jx_tier1.specs.Turns.{AreTurns};
+ghost use Rattle.jx_tier1.specs.Blocks.{BlockWords};
+ghost use Rattle.jx_tier1.specs.BlockPasses.{Shows, HasSizeOf};
 ghost use Rattle.jx_tier1.specs.Walking.{IsNow};
 ghost use Rattle.jx_tier1_specs.specs.Short.{AreShort, with_bits};
 ghost use Rattle.jx_base.specs.Passes.{is_causal, has_symbols};
 
-use crate::marks::Marks;
+use crate::block::BlockState;
+use crate::contexts::Tables;
 use crate::noter::Noter;
+use crate::passes::walk_pass;
 use crate::questions::plane_for;
-use crate::walk_passes::walk_pass;
 use jx_base::{Band, NoMemory, Style, ends_segment, is_raw};
 use jx_tier1_specs::ask_symbol;
 use std::marker::Model;
@@ -113,92 +113,86 @@ impl<'a> Decoder<'a> {
     /// A pass's own decisions.
     fn bits(
         &mut self,
-        marks: &mut Marks,
-        labels: &[u8],
-        turns: &[u8],
+        block: &mut BlockState,
+        tables: &Tables,
         band: Band,
         style: Style,
         planes: u8,
         pass: u16,
     ) -> Result<(), NoMemory>
-        requires labels { AreLabels band labels.now }
-        requires turns { AreTurns turns.now }
         requires scan { IsScan (plane_of band (is_causal style.bits) planes pass) }
         requires few { pass ≤ 220 }
-        requires wide { marks.old.width ≤ 1024 }
-        requires high { marks.old.height ≤ 1024 }
-        requires shows { Shows planes self.old.cells marks.old }
+        requires band { tables.now ≡ band }
+        requires wide { block.old.width ≤ 1024 }
+        requires high { block.old.height ≤ 1024 }
+        requires shows { Shows planes pass self.old.cells block.old }
         requires now { IsNow (plane_of band (is_causal style.bits) planes pass) self.old.cells }
         requires within { AreWithin planes ((pass + 2) / 3 + 1) self.old.cells }
         ensures decoding { OnOk result (self.new ≡ with_bits self.old (read_bits (coding_of band style.bits planes) pass self.old)) }
-        ensures size { IsOfSize marks.old marks.new }
-        ensures shows { OnOk result (Shows planes self.new.cells marks.new) }
+        ensures size { HasSizeOf block.old block.new }
+        ensures shows { OnOk result (Shows planes (pass + 1) self.new.cells block.new) }
         ensures within { OnOk result (AreWithin planes ((pass + 2) / 3 + 1) self.new.cells) }
     {
         let plane = plane_for(band, style, planes, pass);
         self.noter.begin(plane, style);
-        walk_pass(&mut self.noter, marks, labels, turns, plane, pass)?;
+        walk_pass(&mut self.noter, block, tables, plane, pass)?;
         Ok(())
     }
 
     /// A pass within its segment.
     fn pass_within(
         &mut self,
-        marks: &mut Marks,
-        labels: &[u8],
-        turns: &[u8],
+        block: &mut BlockState,
+        tables: &Tables,
         band: Band,
         style: Style,
         planes: u8,
         pass: u16,
     ) -> Result<(), NoMemory>
-        requires labels { AreLabels band labels.now }
-        requires turns { AreTurns turns.now }
         requires scan { IsScan (plane_of band (is_causal style.bits) planes pass) }
         requires few { pass ≤ 220 }
-        requires wide { marks.old.width ≤ 1024 }
-        requires high { marks.old.height ≤ 1024 }
-        requires shows { Shows planes self.old.cells marks.old }
+        requires band { tables.now ≡ band }
+        requires wide { block.old.width ≤ 1024 }
+        requires high { block.old.height ≤ 1024 }
+        requires shows { Shows planes pass self.old.cells block.old }
         requires now { IsNow (plane_of band (is_causal style.bits) planes pass) self.old.cells }
         requires within { AreWithin planes ((pass + 2) / 3 + 1) self.old.cells }
         ensures decoding { OnOk result (self.new ≡ read_within (coding_of band style.bits planes) pass self.old) }
-        ensures size { IsOfSize marks.old marks.new }
-        ensures shows { OnOk result (Shows planes self.new.cells marks.new) }
+        ensures size { HasSizeOf block.old block.new }
+        ensures shows { OnOk result (Shows planes (pass + 1) self.new.cells block.new) }
         ensures within { OnOk result (AreWithin planes ((pass + 2) / 3 + 1) self.new.cells) }
     {
-        self.bits(marks, labels, turns, band, style, planes, pass)?;
+        self.bits(block, tables, band, style, planes, pass)?;
         let right = self.symbol(style, pass)?;
         self.note(pass, right)
     }
 
-    /// The next pass of the block, whose coefficients the marks show.
+    /// The next pass of the block, whose coefficients the words of the block show.
     pub fn pass(
         &mut self,
-        marks: &mut Marks,
-        labels: &[u8],
-        turns: &[u8],
+        block: &mut BlockState,
+        tables: &Tables,
         band: Band,
         style: Style,
         planes: u8,
         pass: u16,
     ) -> Result<(), NoMemory>
-        requires labels { AreLabels band labels.now }
-        requires turns { AreTurns turns.now }
         requires scan { IsScan (plane_of band (is_causal style.bits) planes pass) }
         requires few { pass ≤ 220 }
-        requires wide { marks.old.width ≤ 1024 }
-        requires high { marks.old.height ≤ 1024 }
-        requires shows { Shows planes self.old.cells marks.old }
+        requires band { tables.now ≡ band }
+        requires wide { block.old.width ≤ 1024 }
+        requires high { block.old.height ≤ 1024 }
+        requires shows { Shows planes pass self.old.cells block.old }
         requires now { IsNow (plane_of band (is_causal style.bits) planes pass) self.old.cells }
         requires within { AreWithin planes ((pass + 2) / 3 + 1) self.old.cells }
         requires rest { AreShort self.old.rest }
         ensures decoding { OnOk result (self.new ≡ read_pass (coding_of band style.bits planes) pass self.old) }
-        ensures size { IsOfSize marks.old marks.new }
-        ensures shows { OnOk result (Shows planes self.new.cells marks.new) }
+        ensures size { HasSizeOf block.old block.new }
+        ensures shows { OnOk result (Shows planes (pass + 1) self.new.cells block.new) }
         ensures within { OnOk result (AreWithin planes ((pass + 2) / 3 + 1) self.new.cells) }
         ensures rest { OnOk result (AreShort self.new.rest) }
     {
         self.open(style, pass);
-        self.pass_within(marks, labels, turns, band, style, planes, pass)
+        self.pass_within(block, tables, band, style, planes, pass)
     }
 }

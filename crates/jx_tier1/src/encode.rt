@@ -7,17 +7,14 @@ ghost use Rattle.jx_tier1_specs.specs.Cells.{Cells, HasSize};
 ghost use Rattle.jx_tier1_specs.specs.Reading.{coding_of, zeros};
 ghost use Rattle.jx_tier1_specs.specs.Needs.{needs_from, written};
 ghost use Rattle.jx_tier1.specs.InStep.{no_grid};
-ghost use Rattle.jx_tier1.specs.Labels.{AreLabels};
-ghost use Rattle.jx_tier1.specs.Notes.{Marking, unmarked};
-ghost use Rattle.jx_tier1.specs.Turns.{AreTurns};
+ghost use Rattle.jx_tier1.specs.Blocks.{BlockWords, blank};
 ghost use Rattle.jx_tier1_specs.specs.Writing.{fresh_writing, finished_from};
 ghost use Rattle.jx_tier1_specs.specs.Encoding.{Encoding};
 
 use crate::FlagGrid;
+use crate::block::BlockState;
+use crate::contexts::Tables;
 use crate::encoder::Encoder;
-use crate::labels::labels_of;
-use crate::marks::Marks;
-use crate::turns::turns_of;
 use crate::writer::Writer;
 use jx_base::{Band, NoMemory, Style, is_raw};
 use std::alloc::Global;
@@ -46,33 +43,30 @@ fn end(encoder: Encoder) -> Vec<Vec<u8>>
 /// Codes the passes of a block.
 fn run<'a>(
     encoder: &mut Encoder<'a>,
-    marks: &mut Marks,
+    block: &mut BlockState,
     alloc: Global,
-    labels: &[u8],
-    turns: &[u8],
+    tables: &Tables,
     band: Band,
     style: Style,
     planes: u8,
     passes: u16,
 ) -> Result<(), NoMemory>
-    requires labels { AreLabels band labels.now }
-    requires turns { AreTurns turns.now }
     requires some { 1 ≤ planes }
     requires planes { planes ≤ 74 }
     requires passes { passes ≤ 3 * planes - 2 }
-    requires fresh { marks.old ≡ unmarked marks.old.width marks.old.height }
-    requires wide { marks.old.width ≤ 1024 }
-    requires high { marks.old.height ≤ 1024 }
+    requires fresh { block.old ≡ blank block.old.width block.old.height }
+    requires band { tables.now ≡ band }
+    requires wide { block.old.width ≤ 1024 }
+    requires high { block.old.height ≤ 1024 }
     requires kind { encoder.old.writing.raw ≡ raw_pass style.bits 0 }
     ensures { OnOk result (encoder.new.done ≡ encoder.old.done ++ finished_from style.bits 0 encoder.old.writing
-        (needs_from (coding_of band style.bits planes) encoder.old.writing.target passes 0 (zeros marks.old.width marks.old.height))) }
+        (needs_from (coding_of band style.bits planes) encoder.old.writing.target passes 0 (zeros block.old.width block.old.height))) }
 {
     for pass in 0..passes {
         encoder.pass(
             alloc,
-            marks,
-            labels,
-            turns,
+            block,
+            tables,
             band,
             style,
             planes,
@@ -83,7 +77,7 @@ fn run<'a>(
     Ok(())
 }
 
-/// The same from tables of labels and from marks that it makes.
+/// The same with tables and words of a block that it makes.
 fn run_block<'a>(
     encoder: &mut Encoder<'a>,
     alloc: Global,
@@ -103,11 +97,10 @@ fn run_block<'a>(
     ensures { OnOk result (encoder.new.done ≡ encoder.old.done ++ finished_from style.bits 0 encoder.old.writing
         (needs_from (coding_of band style.bits planes) encoder.old.writing.target passes 0 (zeros width height))) }
 {
-    let labels = labels_of(alloc, band)?;
-    let turns = turns_of(alloc)?;
-    let mut marks = Marks::new(alloc, width, height)?;
+    let tables = Tables::new(alloc, band)?;
+    let mut block = BlockState::new(alloc, width, height)?;
     run(
-        encoder, &mut marks, alloc, &labels, &turns, band, style, planes, passes,
+        encoder, &mut block, alloc, &tables, band, style, planes, passes,
     )
 }
 

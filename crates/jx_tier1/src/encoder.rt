@@ -6,17 +6,17 @@ ghost use Rattle.jx_tier1_specs.specs.Asking.{told};
 ghost use Rattle.jx_tier1_specs.specs.Cells.{Cells};
 ghost use Rattle.jx_tier1_specs.specs.Pass.{IsScan, plane_of, scanned};
 ghost use Rattle.jx_tier1_specs.specs.Reading.{coding_of};
-ghost use Rattle.jx_tier1.specs.Labels.{AreLabels};
-ghost use Rattle.jx_tier1.specs.Notes.{Marking, Shows, IsOfSize};
+ghost use Rattle.jx_tier1.specs.Blocks.{BlockWords};
+ghost use Rattle.jx_tier1.specs.BlockPasses.{Shows, HasSizeOf, Ends};
 ghost use Rattle.jx_tier1.specs.Placing.{coded_in, Comes};
-ghost use Rattle.jx_tier1.specs.Turns.{AreTurns};
-ghost use Rattle.jx_tier1.specs.Walking.{Ends, IsNow};
+ghost use Rattle.jx_tier1.specs.Walking.{IsNow};
 ghost use Rattle.jx_tier1_specs.specs.Writing.{Writing, fresh_writing, segment_by, write_answer};
 ghost use Rattle.jx_tier1_specs.specs.Encoding.{Encoding, renewed_writing, after_symbol, closed, after_step};
 
-use crate::marks::Marks;
+use crate::block::BlockState;
+use crate::contexts::Tables;
+use crate::passes::walk_pass;
 use crate::questions::plane_for;
-use crate::walk_passes::walk_pass;
 use crate::writer::Writer;
 use jx_base::{Band, NoMemory, Style, ends_segment, is_raw};
 use jx_tier1_specs::ask_symbol;
@@ -45,29 +45,27 @@ impl<'a> Encoder<'a> {
     /// A pass's own decisions.
     fn bits(
         &mut self,
-        marks: &mut Marks,
-        labels: &[u8],
-        turns: &[u8],
+        block: &mut BlockState,
+        tables: &Tables,
         band: Band,
         style: Style,
         planes: u8,
         pass: u16,
     ) -> Result<(), NoMemory>
-        requires labels { AreLabels band labels.now }
-        requires turns { AreTurns turns.now }
         requires scan { IsScan (plane_of band (is_causal style.bits) planes pass) }
         requires few { pass ≤ 220 }
-        requires wide { marks.old.width ≤ 1024 }
-        requires high { marks.old.height ≤ 1024 }
-        ensures size { IsOfSize marks.old marks.new }
+        requires band { tables.now ≡ band }
+        requires wide { block.old.width ≤ 1024 }
+        requires high { block.old.height ≤ 1024 }
+        ensures size { HasSizeOf block.old block.new }
         ensures kept { self.new ≡ record self.old { writing = self.new.writing } }
-        ensures walk { (g : Cells) → Shows planes g marks.old → IsNow (plane_of band (is_causal style.bits) planes pass) g
-            → OnOk result (Ends planes (told write_answer (scanned pass (plane_of band (is_causal style.bits) planes pass) (g.width * g.height) 0 g)
-            (renewed_writing style.bits self.old.writing)) marks.new self.new.writing) }
+        ensures walk { (g : Cells) → Shows planes pass g block.old → IsNow (plane_of band (is_causal style.bits) planes pass) g
+            → OnOk result (Ends planes (pass + 1) (told write_answer (scanned pass (plane_of band (is_causal style.bits) planes pass) (g.width * g.height) 0 g)
+            (renewed_writing style.bits self.old.writing)) block.new self.new.writing) }
     {
         self.writer.begin(style);
         let plane = plane_for(band, style, planes, pass);
-        walk_pass(&mut self.writer, marks, labels, turns, plane, pass)?;
+        walk_pass(&mut self.writer, block, tables, plane, pass)?;
         Ok(())
     }
 
@@ -108,27 +106,25 @@ impl<'a> Encoder<'a> {
     pub fn pass(
         &mut self,
         alloc: Global,
-        marks: &mut Marks,
-        labels: &[u8],
-        turns: &[u8],
+        block: &mut BlockState,
+        tables: &Tables,
         band: Band,
         style: Style,
         planes: u8,
         pass: u16,
         last: bool,
     ) -> Result<(), NoMemory>
-        requires labels { AreLabels band labels.now }
-        requires turns { AreTurns turns.now }
         requires scan { IsScan (plane_of band (is_causal style.bits) planes pass) }
         requires few { pass ≤ 220 }
-        requires wide { marks.old.width ≤ 1024 }
-        requires high { marks.old.height ≤ 1024 }
+        requires band { tables.now ≡ band }
+        requires wide { block.old.width ≤ 1024 }
+        requires high { block.old.height ≤ 1024 }
         requires kind { self.old.writing.raw ≡ raw_pass style.bits pass }
-        ensures size { IsOfSize marks.old marks.new }
-        ensures walk { (g : Cells) → Shows planes g marks.old → IsNow (plane_of band (is_causal style.bits) planes pass) g
-            → OnOk result (Comes planes (after_step (coding_of band style.bits planes) last pass (coded_in g self.old)) marks.new self.new) }
+        ensures size { HasSizeOf block.old block.new }
+        ensures walk { (g : Cells) → Shows planes pass g block.old → IsNow (plane_of band (is_causal style.bits) planes pass) g
+            → OnOk result (Comes planes (pass + 1) (after_step (coding_of band style.bits planes) last pass (coded_in g self.old)) block.new self.new) }
     {
-        self.bits(marks, labels, turns, band, style, planes, pass)?;
+        self.bits(block, tables, band, style, planes, pass)?;
         self.symbol(style, pass)?;
         self.finish(alloc, style, pass, last)?;
         Ok(())

@@ -3,9 +3,12 @@
 #![tactic(auto)]
 
 mod answers;
+mod block;
 mod coefs;
 mod comparer;
+mod contexts;
 mod copier;
+mod decisions;
 mod decode;
 mod decoder;
 mod encode;
@@ -13,22 +16,17 @@ mod encoder;
 mod ends;
 mod grid;
 mod half;
-mod labels;
-mod marks;
 mod noter;
+mod passes;
 mod pen;
+mod places;
 mod questions;
 mod recode;
 mod recoder;
 mod rest;
-mod rows;
 mod same;
-mod turns;
-mod walk;
-mod walk_passes;
-mod walk_rows;
-mod walk_runs;
-mod walk_steps;
+mod word_passes;
+mod words;
 mod writer;
 
 pub use decode::{FlagDecoded, decode_flags, sound_flags};

@@ -5,19 +5,16 @@ ghost use Rattle.jx_base.specs.Passes.{is_causal};
 ghost use Rattle.jx_tier1_specs.specs.Segments.{bytes_of};
 ghost use Rattle.jx_tier1_specs.specs.Reading.{coding_of, decoded, zeros};
 ghost use Rattle.jx_tier1_specs.specs.Needs.{written};
-ghost use Rattle.jx_tier1.specs.Labels.{AreLabels};
 ghost use Rattle.jx_tier1.specs.InStep.{Recoding, recoded_from, to_recode, no_grid};
-ghost use Rattle.jx_tier1.specs.Notes.{Marking, unmarked};
+ghost use Rattle.jx_tier1.specs.Blocks.{BlockWords, blank};
 ghost use Rattle.jx_tier1.specs.Placing.{placed};
-ghost use Rattle.jx_tier1.specs.Turns.{AreTurns};
 ghost use Rattle.jx_tier1_specs.specs.Short.{AreShort};
 
+use crate::block::BlockState;
+use crate::contexts::Tables;
 use crate::copier::Copier;
-use crate::labels::labels_of;
-use crate::marks::Marks;
 use crate::pen::Pen;
 use crate::recoder::Recoder;
-use crate::turns::turns_of;
 use jx_base::{NoMemory, Style, is_raw};
 use jx_mq::Contexts;
 use jx_tier1_specs::laws::ends_of_passes_are_told;
@@ -100,38 +97,35 @@ fn end(recoder: Recoder) -> FlagRecoded
 /// Decodes the passes of a block and codes them.
 fn run<'a>(
     recoder: &mut Recoder<'a>,
-    marks: &mut Marks,
+    block: &mut BlockState,
     alloc: Global,
-    labels: &[u8],
-    turns: &[u8],
+    tables: &Tables,
     coded: &Coded,
     style: Style,
 ) -> Result<(), NoMemory>
-    requires labels { AreLabels coded.now.band labels.now }
-    requires turns { AreTurns turns.now }
     requires some { 1 ≤ coded.now.planes }
     requires planes { coded.now.planes ≤ 74 }
     requires passes { coded.now.passes ≤ 3 * coded.now.planes - 2 }
-    requires fresh { marks.old ≡ unmarked marks.old.width marks.old.height }
-    requires wide { marks.old.width ≤ 1024 }
-    requires high { marks.old.height ≤ 1024 }
+    requires fresh { block.old ≡ blank block.old.width block.old.height }
+    requires band { tables.now ≡ coded.now.band }
+    requires wide { block.old.width ≤ 1024 }
+    requires high { block.old.height ≤ 1024 }
     requires rest { AreShort recoder.old.rest }
     ensures done { let planes = coded.now.planes in let band = coded.now.band in
-        let start = placed (zeros marks.old.width marks.old.height) recoder.old in
+        let start = placed (zeros block.old.width block.old.height) recoder.old in
         OnOk result (recoder.new.done ≡ (recoded_from (coding_of band coded.now.style.bits planes) (coding_of band style.bits planes) coded.now.passes 0 start).done) }
     ensures looked { let planes = coded.now.planes in let band = coded.now.band in
-        let start = placed (zeros marks.old.width marks.old.height) recoder.old in
+        let start = placed (zeros block.old.width block.old.height) recoder.old in
         OnOk result (recoder.new.looked ≡ (recoded_from (coding_of band coded.now.style.bits planes) (coding_of band style.bits planes) coded.now.passes 0 start).looked) }
     ensures wrong { let planes = coded.now.planes in let band = coded.now.band in
-        let start = placed (zeros marks.old.width marks.old.height) recoder.old in
+        let start = placed (zeros block.old.width block.old.height) recoder.old in
         OnOk result (recoder.new.wrong ≡ (recoded_from (coding_of band coded.now.style.bits planes) (coding_of band style.bits planes) coded.now.passes 0 start).wrong) }
 {
     for pass in 0..coded.passes {
         recoder.pass(
             alloc,
-            marks,
-            labels,
-            turns,
+            block,
+            tables,
             coded.band,
             coded.style,
             style,
@@ -143,7 +137,7 @@ fn run<'a>(
     Ok(())
 }
 
-/// The same from tables of labels and from marks that it makes.
+/// The same with tables and words of a block that it makes.
 fn run_block<'a>(
     recoder: &mut Recoder<'a>,
     alloc: Global,
@@ -168,10 +162,9 @@ fn run_block<'a>(
         let start = placed (zeros width height) recoder.old in
         OnOk result (recoder.new.wrong ≡ (recoded_from (coding_of band coded.now.style.bits planes) (coding_of band style.bits planes) coded.now.passes 0 start).wrong) }
 {
-    let labels = labels_of(alloc, coded.band)?;
-    let turns = turns_of(alloc)?;
-    let mut marks = Marks::new(alloc, width, height)?;
-    run(recoder, &mut marks, alloc, &labels, &turns, coded, style)
+    let tables = Tables::new(alloc, coded.band)?;
+    let mut block = BlockState::new(alloc, width, height)?;
+    run(recoder, &mut block, alloc, &tables, coded, style)
 }
 
 /// The segments in another style of a block of at most 1,024 by 1,024 places, from its coded passes

@@ -6,21 +6,21 @@ ghost use Rattle.jx_tier1_specs.specs.Asking.{told};
 ghost use Rattle.jx_tier1_specs.specs.Cells.{Cells};
 ghost use Rattle.jx_tier1_specs.specs.Pass.{IsScan, plane_of, scanned};
 ghost use Rattle.jx_tier1_specs.specs.Reading.{coding_of, first_segment, read_symbol, first_wrong, ends_by_symbol};
-ghost use Rattle.jx_tier1.specs.Labels.{AreLabels};
 ghost use Rattle.jx_tier1.specs.InStep.{Recoding, begun, checked, copy_answer, marked, ended, recoded_pass, renewed_both};
-ghost use Rattle.jx_tier1.specs.Notes.{Marking, Shows, IsOfSize};
+ghost use Rattle.jx_tier1.specs.Blocks.{BlockWords};
+ghost use Rattle.jx_tier1.specs.BlockPasses.{Shows, HasSizeOf, Ends};
 ghost use Rattle.jx_tier1.specs.Placing.{placed, Goes};
-ghost use Rattle.jx_tier1.specs.Turns.{AreTurns};
-ghost use Rattle.jx_tier1.specs.Walking.{Ends, IsNow};
+ghost use Rattle.jx_tier1.specs.Walking.{IsNow};
 ghost use Rattle.jx_tier1_specs.specs.Writing.{fresh_writing, segment_by};
 ghost use Rattle.jx_tier1_specs.specs.Short.{AreShort};
 ghost use Rattle.jx_tier1_specs.specs.Ends.{stand_of, end_in};
 
+use crate::block::BlockState;
+use crate::contexts::Tables;
 use crate::copier::Copier;
 use crate::ends::tell;
-use crate::marks::Marks;
+use crate::passes::walk_pass;
 use crate::questions::plane_for;
-use crate::walk_passes::walk_pass;
 use jx_base::{Band, NoMemory, Style, ends_segment, is_raw};
 use jx_tier1_specs::{Stand, ask_symbol};
 use std::alloc::Global;
@@ -104,9 +104,8 @@ impl<'a> Recoder<'a> {
     /// A pass's own decisions.
     fn bits(
         &mut self,
-        marks: &mut Marks,
-        labels: &[u8],
-        turns: &[u8],
+        block: &mut BlockState,
+        tables: &Tables,
         band: Band,
         old: Style,
         new: Style,
@@ -115,19 +114,18 @@ impl<'a> Recoder<'a> {
     ) -> Result<(), NoMemory>
         requires scan { IsScan (plane_of band (is_causal old.bits) planes pass) }
         requires few { pass ≤ 220 }
-        requires labels { AreLabels band labels.now }
-        requires turns { AreTurns turns.now }
-        requires wide { marks.old.width ≤ 1024 }
-        requires high { marks.old.height ≤ 1024 }
-        ensures size { IsOfSize marks.old marks.new }
+        requires band { tables.now ≡ band }
+        requires wide { block.old.width ≤ 1024 }
+        requires high { block.old.height ≤ 1024 }
+        ensures size { HasSizeOf block.old block.new }
         ensures kept { self.new ≡ record self.old { copying = self.new.copying } }
-        ensures walk { (g : Cells) → Shows planes g marks.old → IsNow (plane_of band (is_causal old.bits) planes pass) g
-            → OnOk result (Ends planes (told copy_answer (scanned pass (plane_of band (is_causal old.bits) planes pass) (g.width * g.height) 0 g)
-            (renewed_both old.bits new.bits self.old.copying)) marks.new self.new.copying) }
+        ensures walk { (g : Cells) → Shows planes pass g block.old → IsNow (plane_of band (is_causal old.bits) planes pass) g
+            → OnOk result (Ends planes (pass + 1) (told copy_answer (scanned pass (plane_of band (is_causal old.bits) planes pass) (g.width * g.height) 0 g)
+            (renewed_both old.bits new.bits self.old.copying)) block.new self.new.copying) }
     {
         self.copier.renew(old, new);
         let plane = plane_for(band, old, planes, pass);
-        walk_pass(&mut self.copier, marks, labels, turns, plane, pass)?;
+        walk_pass(&mut self.copier, block, tables, plane, pass)?;
         Ok(())
     }
 
@@ -216,9 +214,8 @@ impl<'a> Recoder<'a> {
     pub fn pass(
         &mut self,
         alloc: Global,
-        marks: &mut Marks,
-        labels: &[u8],
-        turns: &[u8],
+        block: &mut BlockState,
+        tables: &Tables,
         band: Band,
         old: Style,
         new: Style,
@@ -226,20 +223,19 @@ impl<'a> Recoder<'a> {
         pass: u16,
         last: bool,
     ) -> Result<(), NoMemory>
-        requires labels { AreLabels band labels.now }
-        requires turns { AreTurns turns.now }
         requires scan { IsScan (plane_of band (is_causal old.bits) planes pass) }
         requires few { pass ≤ 220 }
-        requires wide { marks.old.width ≤ 1024 }
-        requires high { marks.old.height ≤ 1024 }
+        requires band { tables.now ≡ band }
+        requires wide { block.old.width ≤ 1024 }
+        requires high { block.old.height ≤ 1024 }
         requires rest { AreShort self.old.rest }
-        ensures size { IsOfSize marks.old marks.new }
+        ensures size { HasSizeOf block.old block.new }
         ensures rest { OnOk result (AreShort self.new.rest) }
-        ensures walk { (g : Cells) → Shows planes g marks.old → IsNow (plane_of band (is_causal old.bits) planes pass) g
-            → OnOk result (Goes planes (recoded_pass (coding_of band old.bits planes) (coding_of band new.bits planes) last pass (placed g self.old)) marks.new self.new) }
+        ensures walk { (g : Cells) → Shows planes pass g block.old → IsNow (plane_of band (is_causal old.bits) planes pass) g
+            → OnOk result (Goes planes (pass + 1) (recoded_pass (coding_of band old.bits planes) (coding_of band new.bits planes) last pass (placed g self.old)) block.new self.new) }
     {
         self.open(old, pass);
-        self.bits(marks, labels, turns, band, old, new, planes, pass)?;
+        self.bits(block, tables, band, old, new, planes, pass)?;
         self.check(old, pass)?;
         self.mark(new, pass)?;
         self.close(alloc, new, pass, last)?;

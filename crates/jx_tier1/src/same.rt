@@ -7,15 +7,12 @@ ghost use Rattle.jx_tier1_specs.specs.Segments.{bytes_of};
 ghost use Rattle.jx_tier1_specs.specs.Reading.{at_start, coding_of, decoded};
 ghost use Rattle.jx_tier1_specs.specs.Short.{AreShort};
 ghost use Rattle.jx_tier1.specs.Beside.{pair_of};
-ghost use Rattle.jx_tier1.specs.Labels.{AreLabels};
-ghost use Rattle.jx_tier1.specs.Notes.{unmarked};
-ghost use Rattle.jx_tier1.specs.Turns.{AreTurns};
+ghost use Rattle.jx_tier1.specs.Blocks.{blank};
 
+use crate::block::BlockState;
 use crate::comparer::Comparer;
+use crate::contexts::Tables;
 use crate::half::Half;
-use crate::labels::labels_of;
-use crate::marks::Marks;
-use crate::turns::turns_of;
 use jx_base::{NoMemory, Style};
 use jx_tier1_specs::Coded;
 use std::alloc::Global;
@@ -23,32 +20,29 @@ use std::alloc::Global;
 /// Reads the passes of two codings up to the first pass that has a decision which differs.
 fn run(
     comparer: &mut Comparer<'_>,
-    marks: &mut Marks,
-    labels: &[u8],
-    turns: &[u8],
+    block: &mut BlockState,
+    tables: &Tables,
     coded: &Coded,
     style: Style,
 ) -> Result<bool, NoMemory>
-    requires labels { AreLabels coded.now.band labels.now }
-    requires turns { AreTurns turns.now }
     requires some { 1 ≤ coded.now.planes }
     requires planes { coded.now.planes ≤ 74 }
     requires passes { coded.now.passes ≤ 3 * coded.now.planes - 2 }
     requires causal { is_causal style.bits ≡ is_causal coded.now.style.bits }
-    requires fresh { marks.old ≡ unmarked marks.old.width marks.old.height }
-    requires wide { marks.old.width ≤ 1024 }
-    requires high { marks.old.height ≤ 1024 }
-    requires start { comparer.old ≡ pair_of (at_start marks.old.width marks.old.height comparer.old.one.rest) (at_start marks.old.width marks.old.height comparer.old.two.rest) }
+    requires fresh { block.old ≡ blank block.old.width block.old.height }
+    requires band { tables.now ≡ coded.now.band }
+    requires wide { block.old.width ≤ 1024 }
+    requires high { block.old.height ≤ 1024 }
+    requires start { comparer.old ≡ pair_of (at_start block.old.width block.old.height comparer.old.one.rest) (at_start block.old.width block.old.height comparer.old.two.rest) }
     ensures { let c = coding_of coded.now.band coded.now.style.bits coded.now.planes in
         let d = coding_of coded.now.band style.bits coded.now.planes in
-        IfOk result (λ same. Decides same ((decoded marks.old.width marks.old.height c comparer.old.one.rest coded.now.passes).cells
-        ≡ (decoded marks.old.width marks.old.height d comparer.old.two.rest coded.now.passes).cells)) }
+        IfOk result (λ same. Decides same ((decoded block.old.width block.old.height c comparer.old.one.rest coded.now.passes).cells
+        ≡ (decoded block.old.width block.old.height d comparer.old.two.rest coded.now.passes).cells)) }
 {
     for pass in 0..coded.passes {
         comparer.pass(
-            marks,
-            labels,
-            turns,
+            block,
+            tables,
             coded.band,
             coded.style,
             style,
@@ -95,8 +89,7 @@ pub fn same_flags(
         two: Half::new(b.segments.as_slice()),
         alike: true,
     };
-    let labels = labels_of(alloc, a.band)?;
-    let turns = turns_of(alloc)?;
-    let mut marks = Marks::new(alloc, width, height)?;
-    run(&mut comparer, &mut marks, &labels, &turns, a, b.style)
+    let tables = Tables::new(alloc, a.band)?;
+    let mut block = BlockState::new(alloc, width, height)?;
+    run(&mut comparer, &mut block, &tables, a, b.style)
 }

@@ -9,7 +9,7 @@ loop-pass-init c =
     let d : Coding = coding_of c.args.coded.now.band c.args.coded.now.style.bits c.args.coded.now.planes in
     record {
       size = record { width = refl; height = refl };
-      way = reading_begun d c.args.marks.now.width c.args.marks.now.height c.args.coded.now.passes c.args.marks.now c.args.decoder.now c.requires.fresh c.requires.cells;
+      way = reading_begun d c.args.block.now.width c.args.block.now.height c.args.coded.now.passes c.args.block.now c.args.decoder.now c.requires.fresh c.requires.cells;
       most = omega arith;
       rest = c.requires.rest;
     }
@@ -17,8 +17,8 @@ loop-pass-init c =
 pub pass-requires : goal.pass-requires
 pass-requires c =
     let d : Coding = coding_of c.args.coded.now.band c.args.coded.now.style.bits c.args.coded.now.planes in
-    let w : ℕ = c.args.marks.now.width in
-    let h : ℕ = c.args.marks.now.height in
+    let w : ℕ = c.args.block.now.width in
+    let h : ℕ = c.args.block.now.height in
     let b : HasPasses d c.args.coded.now.passes = record { some = c.requires.some; most = c.requires.planes; few = c.requires.passes } in
     let i = c.loop-pass.invariant in
     let s = i.size in
@@ -29,10 +29,9 @@ pass-requires c =
     let few = c.requires.passes in
     let planes = c.requires.planes in
     let l = c.loop-pass-test.true in
-    let r = reading_ready d w h c.args.coded.now.passes c.loop-pass.pass c.loop-pass.marks c.loop-pass.decoder c.args.decoder.now b l i.way in
+    let r = reading_ready d w h c.args.coded.now.passes c.loop-pass.pass c.loop-pass.block c.loop-pass.decoder c.args.decoder.now b l i.way in
     record {
-      labels = c.requires.labels;
-      turns = c.requires.turns;
+      band = c.requires.band;
       scan = r.now.scan;
       few = omega arith;
       wide = omega arith;
@@ -46,15 +45,15 @@ pass-requires c =
 pub loop-pass-preserved : goal.loop-pass-preserved
 loop-pass-preserved c =
     let d : Coding = coding_of c.args.coded.now.band c.args.coded.now.style.bits c.args.coded.now.planes in
-    let w : ℕ = c.args.marks.now.width in
-    let h : ℕ = c.args.marks.now.height in
+    let w : ℕ = c.args.block.now.width in
+    let h : ℕ = c.args.block.now.height in
     let b : HasPasses d c.args.coded.now.passes = record { some = c.requires.some; most = c.requires.planes; few = c.requires.passes } in
     let i = c.loop-pass.invariant in
     let k = c.in_ok-pass.ensures in
     let less = c.loop-pass-test.true in
     record {
       size = record { width = k.size.width ∙ i.size.width; height = k.size.height ∙ i.size.height };
-      way = reading_next d w h c.args.coded.now.passes c.loop-pass.pass c.loop-pass.marks c.pass.new.marks c.loop-pass.decoder c.pass.new.self c.args.decoder.now b
+      way = reading_next d w h c.args.coded.now.passes c.loop-pass.pass c.loop-pass.block c.pass.new.block c.loop-pass.decoder c.pass.new.self c.args.decoder.now b
           c.loop-pass-test.true i.way k.decoding k.shows k.within;
       most = omega arith;
       rest = k.rest;
@@ -67,6 +66,6 @@ returns c =
     let least = c.loop-pass-test.false in
     let most = c.loop-pass.invariant.most in
     let r =
-    reading_done d c.args.marks.now.width c.args.marks.now.height c.args.coded.now.passes c.loop-pass.pass c.loop-pass.marks c.loop-pass.decoder c.args.decoder.now b
+    reading_done d c.args.block.now.width c.args.block.now.height c.args.coded.now.passes c.loop-pass.pass c.loop-pass.block c.loop-pass.decoder c.args.decoder.now b
     (omega arith) c.loop-pass.invariant.way in
     record { decoding = r.0; within = r.1 }

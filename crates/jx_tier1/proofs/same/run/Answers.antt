@@ -11,7 +11,7 @@ loop-pass-init c =
     let two : Coding = coding_of c.args.coded.now.band c.args.style.bits c.args.coded.now.planes in
     record {
       size = record { width = refl; height = refl };
-      way = both_begun one two c.args.marks.now.width c.args.marks.now.height c.args.coded.now.passes c.args.marks.now c.args.comparer.now
+      way = both_begun one two c.args.block.now.width c.args.block.now.height c.args.coded.now.passes c.args.block.now c.args.comparer.now
           c.args.comparer.now.one.rest c.args.comparer.now.two.rest c.requires.fresh c.requires.start;
     }
 
@@ -19,18 +19,18 @@ pub loop-pass-preserved : goal.loop-pass-preserved
 loop-pass-preserved c =
     let one : Coding = coding_of c.args.coded.now.band c.args.coded.now.style.bits c.args.coded.now.planes in
     let two : Coding = coding_of c.args.coded.now.band c.args.style.bits c.args.coded.now.planes in
-    let w : ℕ = c.args.marks.now.width in
-    let h : ℕ = c.args.marks.now.height in
+    let w : ℕ = c.args.block.now.width in
+    let h : ℕ = c.args.block.now.height in
     let s = c.args.comparer.now.one.rest in
     let t = c.args.comparer.now.two.rest in
     let passes = c.args.coded.now.passes in
     let b : HasPasses one passes = record { some = c.requires.some; most = c.requires.planes; few = c.requires.passes } in
     let i = c.loop-pass.invariant in
     let k = c.in_ok-pass.ensures in
-    let n = both_now one two w h passes c.loop-pass.pass c.loop-pass.marks c.loop-pass.comparer s t b c.loop-pass-test.true i.way in
+    let n = both_now one two w h passes c.loop-pass.pass c.loop-pass.block c.loop-pass.comparer s t b c.loop-pass-test.true i.way in
     record {
       size = record { width = k.size.width ∙ i.size.width; height = k.size.height ∙ i.size.height };
-      way = both_next one two w h passes c.loop-pass.pass c.loop-pass.marks c.pass.new.marks c.loop-pass.comparer c.pass.new.self s t b
+      way = both_next one two w h passes c.loop-pass.pass c.loop-pass.block c.pass.new.block c.loop-pass.comparer c.pass.new.self s t b
           c.loop-pass-test.true i.way (k.beside i.way.one i.way.two i.way.agree n)
           (ap (λ (x : Pair). x.alike) (sym c.comparer.view_is) ∙ c.if-not-comparer.false);
     }
@@ -39,16 +39,16 @@ pub returns-then-not-comparer : goal.returns-then-not-comparer
 returns-then-not-comparer c =
     let one : Coding = coding_of c.args.coded.now.band c.args.coded.now.style.bits c.args.coded.now.planes in
     let two : Coding = coding_of c.args.coded.now.band c.args.style.bits c.args.coded.now.planes in
-    let w : ℕ = c.args.marks.now.width in
-    let h : ℕ = c.args.marks.now.height in
+    let w : ℕ = c.args.block.now.width in
+    let h : ℕ = c.args.block.now.height in
     let s = c.args.comparer.now.one.rest in
     let t = c.args.comparer.now.two.rest in
     let passes = c.args.coded.now.passes in
     let b : HasPasses one passes = record { some = c.requires.some; most = c.requires.planes; few = c.requires.passes } in
     let i = c.loop-pass.invariant in
-    let n = both_now one two w h passes c.loop-pass.pass c.loop-pass.marks c.loop-pass.comparer s t b c.loop-pass-test.true i.way in (
+    let n = both_now one two w h passes c.loop-pass.pass c.loop-pass.block c.loop-pass.comparer s t b c.loop-pass-test.true i.way in (
       λ e. absurd (cc),
-      λ same. absurd (both_stopped one two w h passes c.loop-pass.pass c.loop-pass.marks c.pass.new.marks c.loop-pass.comparer c.pass.new.self s t b
+      λ same. absurd (both_stopped one two w h passes c.loop-pass.pass c.loop-pass.block c.pass.new.block c.loop-pass.comparer c.pass.new.self s t b
           (record { band = refl; causal = c.requires.causal; planes = refl }) c.loop-pass-test.true i.way
           (c.in_ok-pass.ensures.beside i.way.one i.way.two i.way.agree n) (ap (λ (x : Pair). x.alike) (sym c.comparer.view_is) ∙ c.if-not-comparer.true) same),
     )
@@ -57,9 +57,9 @@ pub returns : goal.returns
 returns c =
     let one : Coding = coding_of c.args.coded.now.band c.args.coded.now.style.bits c.args.coded.now.planes in
     let two : Coding = coding_of c.args.coded.now.band c.args.style.bits c.args.coded.now.planes in
-    let w : ℕ = c.args.marks.now.width in
-    let h : ℕ = c.args.marks.now.height in
+    let w : ℕ = c.args.block.now.width in
+    let h : ℕ = c.args.block.now.height in
     let s = c.args.comparer.now.one.rest in
     let t = c.args.comparer.now.two.rest in
     let passes = c.args.coded.now.passes in
-    (λ e. both_done one two w h passes c.loop-pass.pass c.loop-pass.marks c.loop-pass.comparer s t c.loop-pass-test.false c.loop-pass.invariant.way, λ same. refl)
+    (λ e. both_done one two w h passes c.loop-pass.pass c.loop-pass.block c.loop-pass.comparer s t c.loop-pass-test.false c.loop-pass.invariant.way, λ same. refl)

@@ -1,0 +1,15 @@
+use Rattle.std.proofs.Common.{◌+◌, ◌*◌, ◌%◌}
+use Rattle.jx_tier1_specs.specs.Cells.{Cells}
+use Rattle.jx_tier1_specs.specs.Asking.{told}
+use Rattle.jx_tier1_specs.specs.Pass.{scanned}
+use Rattle.jx_tier1.specs.BlockPasses.{IsMidway, ComesTo, HasSizeOf}
+use Rattle.jx_tier1.specs.Walking.{IsNow}
+use Rattle.jx_tier1.proofs.GroupPace.{words_in}
+use Rattle.jx_tier1.proofs.passes.walk_stripe.Given as goal
+
+abbrev pub invariant-loop-group : goal.invariant-loop-group
+invariant-loop-group g l = record {
+  size : HasSizeOf l.initial.block l.block;
+  walk : (v : Cells) → IsNow l.plane v → IsMidway ((l.kind + 2) % 3) l.stripe 0 l.plane v l.initial.block
+      → ComesTo ((l.kind + 2) % 3) l.stripe l.group l.plane (told g.S.Source.ask (scanned l.kind l.plane (words_in v l.stripe l.group) (4 * l.stripe * v.width) v) l.initial.source) l.block l.source;
+}
