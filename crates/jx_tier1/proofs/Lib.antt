@@ -40,7 +40,6 @@ mod RefinedLemmas
 mod RefinementWord
 mod RowLemmas
 mod RunColumns
-mod RunLemmas
 mod ScanLemmas
 mod SeekLemmas
 mod SeekWord

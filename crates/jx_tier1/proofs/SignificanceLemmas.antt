@@ -1,11 +1,13 @@
 -- Where a significance pass asks for a bit.
 use Rattle.std.proofs.Common.{◌≡◌, ◌==◌, ◌||◌, ℕ, Bool, true, false, refl, sym, if◌then◌else◌}
-use Rattle.std.proofs.lemmas.Bool.{eq-eqb, ne_eqb}
+use Rattle.std.proofs.lemmas.Bool.{eq-eqb, ne_eqb, true≢false}
 use Rattle.jx_tier1_specs.specs.declared.question.Plane.{Plane}
 use Rattle.jx_tier1_specs.specs.Cells.{Cells, coef_at, significant}
 use Rattle.jx_tier1_specs.specs.Asking.{Told}
 use Rattle.jx_tier1_specs.specs.Pass.{is_decided, label_at, bit_of, significance_at}
-use Rattle.jx_tier1.proofs.RunLemmas.{not_false}
+
+not_false : {A : Type 0} → false ≡ true → A
+not_false e = absurd (true≢false (sym e))
 
 by_first : {A : Type 0} (a d l : Bool) (t u : A) → a ≡ true → (if a || d || l then t else u) ≡ t
 by_first true d l t u e = refl

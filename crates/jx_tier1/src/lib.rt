@@ -1,5 +1,6 @@
-//! Decoding and coding of coded passes (ITU-T T.800, Annex D) in the fast form: the significance of a
-//! block is kept packed, one word for each column of a stripe, and labels are read from a table.
+//! Decoding and coding of coded passes (ITU-T T.800, Annex D) in the fast form: a block is kept in
+//! words of eight columns of a stripe, a pass goes through the bits of a word, and labels are read
+//! from tables.
 #![tactic(auto)]
 
 mod answers;
