@@ -1,5 +1,5 @@
 -- Texts of statements, appended one behind another.
-use Rattle.std.proofs.Common.{◌≡◌, ◌∙◌, ◌≤◌, ◌+◌, ap, sym, ℕ, Bool, List, [], ◌++◌, append_assoc, append-nil}
+use Rattle.std.proofs.Common.{◌≡◌, ◌∙◌, ◌≤◌, ◌+◌, ap, sym, ℕ, Bool, List, ◌++◌, append_assoc, append-nil}
 use Rattle.std.proofs.lemmas.Grind.{flat_map-append}
 use Rattle.jx_base.specs.Joined.{joined}
 use Rattle.jx_base.proofs.Joined.{joined_next, joined_none}

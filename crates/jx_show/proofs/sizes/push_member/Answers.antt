@@ -1,4 +1,4 @@
-use Rattle.std.proofs.Common.{◌≡◌, ◌++◌, ◌∙◌, ap, List, ℕ, append_assoc, codes, string_bytes}
+use Rattle.std.proofs.Common.{◌≡◌, ◌++◌, List, ℕ, append_assoc, codes, string_bytes}
 use Rattle.jx_show.specs.Json.{precincts_json, sizes_json}
 use Rattle.jx_show.specs.Text.{about_text}
 use Rattle.jx_show.proofs.sizes.push_member.Goals as goal
