@@ -22,7 +22,7 @@ The picture is the same in each: no coefficient changes. IN may be a JP2 file:
 OUT is one then too (but with --form j2k), and all its other boxes stay byte
 for byte. Boxes that hold positions in the file (fragment tables, indexes)
 may then be wrong.
-docs/RULES.md has all rules and limits.";
+docs/user/statuses.md has all rules and limits.";
 
 pub(crate) static MAKE: &str = "Makes a test picture in memory, transcodes it and says one line";
 
