@@ -55,7 +55,9 @@ fn answer_in(answer: &Result<Option<Spot>, NoMemory>) -> Result<Option<Spot>, No
 }
 
 /// The first spot of the answers of runs, or the error of the first run that has one and stands before it.
-pub(crate) fn first_found(answers: &[Result<Option<Spot>, NoMemory>]) -> Result<Option<Spot>, NoMemory>
+pub(crate) fn first_found(
+    answers: &[Result<Option<Spot>, NoMemory>],
+) -> Result<Option<Spot>, NoMemory>
     ensures { (p : Spot → Bool) → (f : ℕ → List Spot) → AreFirsts p f answers.now → IfOk result (λ found. found ≡ find p (joined f 0 (length answers.now))) }
 {
     for answer in answers {

@@ -97,7 +97,7 @@ fn changed_unless(
     known: bool,
     after: bool,
 ) -> Result<Vec<bool>, NoMemory>
-    requires before { IsTrue after → AreSameHeaders a.now.stream.now b.now.stream.now (tile - 1) }
+    requires { IsTrue after → AreSameHeaders a.now.stream.now b.now.stream.now (tile - 1) }
     ensures { IfOk result (λ changed. (c : ℕ) → c < length a.now.stream.now.siz.comps → slice_get changed.items c ≡ Some false
         → SameHeaders a.now.stream.now b.now.stream.now tile c) }
 {
@@ -123,14 +123,7 @@ fn are_kept(a: &Input<'_>, b: &Input<'_>, tile: u16, after: bool) -> bool
 
 /// Whether it is known that both headers of a tile say the same of all components: they say what they said in the tile before, or both
 /// say the same as the other, and so do the main headers.
-fn is_known(
-    a: &Input<'_>,
-    b: &Input<'_>,
-    tile: u16,
-    mains: bool,
-    shared: bool,
-    after: bool,
-) -> bool
+fn is_known(a: &Input<'_>, b: &Input<'_>, tile: u16, mains: bool, shared: bool, after: bool) -> bool
     requires mains { IsTrue mains → sayings true a.now.stream.now.main ≡ sayings true b.now.stream.now.main }
     requires shared { IsTrue shared → AreSameHeaders a.now.stream.now b.now.stream.now tile }
     requires before { IsTrue after → AreSameHeaders a.now.stream.now b.now.stream.now (tile - 1) }

@@ -33,8 +33,8 @@ is_known-same-requires-clause-shared g c = λ is.
 pub is_known-same-requires-clause-before : goal.is_known-same-requires-clause-before
 is_known-same-requires-clause-before g c = λ is. headers_before c.args.a c.args.b c.args.tiles.low c.loop-tile.tile (c.is_above-after.ensures is) c.loop-tile.invariant.none
 
-pub changed_unless-requires-clause-before : goal.changed_unless-requires-clause-before
-changed_unless-requires-clause-before g c = λ is. headers_before c.args.a c.args.b c.args.tiles.low c.loop-tile.tile (c.is_above-after.ensures is) c.loop-tile.invariant.none
+pub changed_unless-requires : goal.changed_unless-requires
+changed_unless-requires g c = λ is. headers_before c.args.a c.args.b c.args.tiles.low c.loop-tile.tile (c.is_above-after.ensures is) c.loop-tile.invariant.none
 
 pub compare_tile-requires-clause-known : goal.compare_tile-requires-clause-known
 compare_tile-requires-clause-known g c κs held = λ is.
