@@ -1,7 +1,7 @@
 use Rattle.std.proofs.Common.{sym}
 use Rattle.jx_same.proofs.FindLemmas.{joined_begins, joined_goes, joined_stops, nothing}
 use Rattle.jx_same.proofs.RunLemmas.{first_at}
-use Rattle.jx_same.proofs.runs.first_found.Goals as goal
+use Rattle.jx_same.proofs.cuts.first_found.Goals as goal
 
 pub loop-answer-init : goal.loop-answer-init
 loop-answer-init c = λ p f are. joined_begins p f

@@ -1,31 +1,27 @@
-use Rattle.std.proofs.Common.{◌≡◌, ◌∙◌, ◌-◌, ◌<◌, ℕ, ap, refl, subst, sym, arith}
+use Rattle.std.proofs.Common.{◌≡◌, ◌∙◌, ◌<◌, ℕ, ap, subst, sym, arith}
 use Rattle.std.proofs.lemmas.Bool.{and_parts}
 use Rattle.jx_marker.specs.declared.Siz.{Siz}
-use Rattle.jx_codestream.specs.declared.Stream.{Stream}
 use Rattle.jx_codestream.specs.First.{tile_number}
 use Rattle.jx_same.specs.Items.{differs, tile_items}
-use Rattle.jx_same.specs.Sayings.{IsUnchanged}
 use Rattle.jx_same.specs.Shared.{AreSameHeaders, AreSameMain}
 use Rattle.jx_same.specs.Sides.{meaning_in}
-use Rattle.jx_same.proofs.FindLemmas.{joined_begins, joined_goes, joined_stops, nothing}
+use Rattle.jx_same.proofs.FindLemmas.{from_begins, from_ends, from_goes, from_stops, nothing}
 use Rattle.jx_same.proofs.HeaderLemmas.{siz_back}
-use Rattle.jx_same.proofs.SharedLemmas.{headers_before, headers_beside, headers_from, headers_none, known_after, main_from}
-use Rattle.jx_same.proofs.TileLemmas.{behind_of, tile_found}
-use Rattle.jx_same.proofs.tiles.compare_all.Goals as goal
+use Rattle.jx_same.proofs.SharedLemmas.{changed_beside, headers_before, headers_beside, headers_from, headers_none, known_after, main_from}
+use Rattle.jx_same.proofs.TileLemmas.{tile_found}
+use Rattle.jx_same.proofs.tiles.compare_between.Goals as goal
 
 pub loop-tile-init : goal.loop-tile-init
 loop-tile-init g c = record {
-  first_a = refl;
-  first_b = refl;
   known = λ is. absurd (cc);
-  none = joined_begins (differs (meaning_in c.args.a) (meaning_in c.args.b)) (tile_items c.args.a.stream.now);
+  none = from_begins (differs (meaning_in c.args.a) (meaning_in c.args.b)) (tile_items c.args.a.stream.now) c.args.tiles.low c.args.tiles.low (omega arith);
 }
 
 pub new-requires-in-loop-tile-clause-tile : goal.new-requires-in-loop-tile-clause-tile
 new-requires-in-loop-tile-clause-tile g c =
     let same = siz_back c.args.a.stream.now c.args.b.stream.now c.args.a.blocks.now c.args.b.blocks.now c.requires.siz in
     let tiles : tile_number c.args.a.stream.now.siz ≡ tile_number c.args.b.stream.now.siz = ap (λ (z : Siz). tile_number z) same in
-    let below : c.loop-tile.tile < tile_number c.args.a.stream.now.siz = omega (arith, c.loop-tile-test.true, c.tile_count-tile-end.ensures) in
+    let below : c.loop-tile.tile < tile_number c.args.a.stream.now.siz = omega (arith, c.loop-tile-test.true, c.requires.high) in
     subst (λ (n : ℕ). c.loop-tile.tile < n) tiles below
 
 pub is_known-same-requires-clause-shared : goal.is_known-same-requires-clause-shared
@@ -34,30 +30,28 @@ is_known-same-requires-clause-shared g c = λ is.
     headers_from c.args.a.stream.now c.args.b.stream.now c.loop-tile.tile (c.are_bare-bare.ensures parts.1) (c.loop-tile.invariant.known parts.0))
 
 pub is_known-same-requires-clause-before : goal.is_known-same-requires-clause-before
-is_known-same-requires-clause-before g c = λ lt. headers_before c.args.a c.args.b c.loop-tile.tile lt c.loop-tile.invariant.none
+is_known-same-requires-clause-before g c = λ is. headers_before c.args.a c.args.b c.args.tiles.low c.loop-tile.tile (c.is_above-after.ensures is) c.loop-tile.invariant.none
+
+pub changed_unless-requires : goal.changed_unless-requires
+changed_unless-requires g c = λ is. headers_before c.args.a c.args.b c.args.tiles.low c.loop-tile.tile (c.is_above-after.ensures is) c.loop-tile.invariant.none
 
 pub compare_tile-requires-clause-known : goal.compare_tile-requires-clause-known
 compare_tile-requires-clause-known g c κs held = λ is.
     headers_beside AreSameHeaders c.args.a c.args.b c.in_ok-side_a.side_a c.in_ok-side_b.side_b c.loop-tile.tile c.in_ok-side_a.ensures c.in_ok-side_b.ensures
     (c.is_known-same.ensures is)
 
-pub compare_tile-requires-clause-before : goal.compare_tile-requires-clause-before
-compare_tile-requires-clause-before g c κs held =
-    headers_beside (λ (s t : Stream) (n : ℕ). 0 < n → AreSameHeaders s t (n - 1)) c.args.a c.args.b c.in_ok-side_a.side_a c.in_ok-side_b.side_b c.loop-tile.tile
-    c.in_ok-side_a.ensures c.in_ok-side_b.ensures (λ lt. headers_before c.args.a c.args.b c.loop-tile.tile lt c.loop-tile.invariant.none)
-
 pub compare_tile-requires-clause-changed : goal.compare_tile-requires-clause-changed
 compare_tile-requires-clause-changed g c κs held =
-    λ k is. headers_beside (λ (s t : Stream) (n : ℕ). IsUnchanged s t n k) c.args.a c.args.b c.in_ok-side_a.side_a c.in_ok-side_b.side_b c.loop-tile.tile c.in_ok-side_a.ensures c.in_ok-side_b.ensures
-    (c.in_ok-changed.ensures k (rw (← c.deref.ensures.value) is))
+    λ k lt is. changed_beside c.args.a c.args.b c.in_ok-side_a.side_a c.in_ok-side_b.side_b c.loop-tile.tile k c.in_ok-side_a.ensures c.in_ok-side_b.ensures
+    (λ low. c.in_ok-changed.ensures k low (rw (← c.deref.ensures.value) is)) lt
 
 pub returns-in-Some : goal.returns-in-Some
 returns-in-Some g c =
     let a = c.args.a in
     let b = c.args.b in
     let found = tile_found a b c.in_ok-side_a.side_a c.in_ok-side_b.side_b c.loop-tile.tile c.in_ok-spot.field-0 c.in_ok-side_a.ensures c.in_ok-side_b.ensures c.in_ok-spot.ensures in
-    let below : c.loop-tile.tile < tile_number a.stream.now.siz = omega (arith, c.loop-tile-test.true, c.tile_count-tile-end.ensures) in
-    sym (joined_stops (differs (meaning_in a) (meaning_in b)) (tile_items a.stream.now) c.loop-tile.tile (tile_number a.stream.now.siz) c.in-Some.spot c.loop-tile.invariant.none (sym found ∙ c.in-Some.is) below)
+    sym (from_stops (differs (meaning_in a) (meaning_in b)) (tile_items a.stream.now) c.args.tiles.low c.loop-tile.tile c.args.tiles.high c.in-Some.spot
+    (omega arith) c.loop-tile.invariant.none (sym found ∙ c.in-Some.is) c.loop-tile-test.true)
 
 pub loop-tile-preserved : goal.loop-tile-preserved
 loop-tile-preserved g c =
@@ -70,7 +64,10 @@ loop-tile-preserved g c =
       known = λ now.
           known_after c.loop-tile.known c.are_bare-bare.result (AreSameMain a.stream.now b.stream.now) c.loop-tile.invariant.known
           (λ is. main_from a.stream.now b.stream.now t (c.are_bare-bare.ensures is) (headers_none a.stream.now b.stream.now a.blocks.now b.blocks.now t none)) (sym c.either-known.ensures ∙ now);
-      first_a = behind_of a c.in_ok-side_a.side_a c.loop-tile.tile c.behind-first_a.result c.in_ok-side_a.ensures c.behind-first_a.ensures;
-      first_b = behind_of b c.in_ok-side_b.side_b c.loop-tile.tile c.behind-first_b.result c.in_ok-side_b.ensures c.behind-first_b.ensures;
-      none = joined_goes (differs (meaning_in a) (meaning_in b)) (tile_items a.stream.now) c.loop-tile.tile c.loop-tile.invariant.none none;
+      none = from_goes (differs (meaning_in a) (meaning_in b)) (tile_items a.stream.now) c.args.tiles.low t (omega arith) c.loop-tile.invariant.none none;
     }
+
+pub returns : goal.returns
+returns g c =
+    sym (from_ends (differs (meaning_in c.args.a) (meaning_in c.args.b)) (tile_items c.args.a.stream.now) c.args.tiles.low c.args.tiles.high c.loop-tile.tile
+    (omega (arith, c.loop-tile-test.false)) (λ le. omega (arith, le)) c.loop-tile.invariant.none)
