@@ -1,7 +1,8 @@
+use Rattle.jx_rounds.proofs.MemoryLemmas.{memory_halted, memory_made}
 use Rattle.jx_rounds.specs.declared.halt.Halt.TheVariants as halt
 use Rattle.jx_rounds.proofs.TapedLemmas.{fault_taped}
 use Rattle.jx_rounds.proofs.WriteLemmas.{first_ends, first_place}
-use Rattle.jx_transcode.proofs.file.write_file.Goals as goal
+use Rattle.jx_rounds.proofs.file.write_memory.Goals as goal
 
 pub returns-in_default-main_view-clause-taped : goal.returns-in_default-main_view-clause-taped
 returns-in_default-main_view-clause-taped g c = rw c.requires.empty (fault_taped c.args.plan.now 0 0 halt.NoMemory tt (first_place c.args.plan.now) (first_ends c.args.plan.now))
@@ -9,5 +10,8 @@ returns-in_default-main_view-clause-taped g c = rw c.requires.empty (fault_taped
 pub returns-in_default-with_capacity-clause-taped : goal.returns-in_default-with_capacity-clause-taped
 returns-in_default-with_capacity-clause-taped g c = rw c.requires.empty (fault_taped c.args.plan.now 0 0 halt.NoMemory tt (first_place c.args.plan.now) (first_ends c.args.plan.now))
 
-pub write_made-requires-clause-header : goal.write_made-requires-clause-header
-write_made-requires-clause-header g c = λ lifetimes within. rw c.new-making.ensures c.in-Ok.ensures
+pub ready_for-requires-clause-header : goal.ready_for-requires-clause-header
+ready_for-requires-clause-header g c = λ lifetimes within. rw c.new-making.ensures c.in-Ok.ensures
+
+pub returns-in-Ok-write_ready-clause-ok : goal.returns-in-Ok-write_ready-clause-ok
+returns-in-Ok-write_ready-clause-ok g c = memory_made c.args.plan.now _ _ _ _ _ c.new-writer.ensures c.in-Ok-ready_for.ensures.head c.in-Ok-write_ready.ensures.ok c.into_bytes.ensures
