@@ -1,5 +1,5 @@
 -- Fronts of a file, tile by tile, and the rounds in which they are written.
-use Rattle.std.proofs.Common.{◌≡◌, ◌∙◌, ◌<◌, ◌≤◌, ◌+◌, ◌^◌, nat_le, nat_lt, true, false, ℕ, List, [], ◌∷◌, ◌++◌, length, map, refl, ap, sym, subst, arith, inl, inr, append_assoc, append-nil, add-one, Option, None, Some}
+use Rattle.std.proofs.Common.{◌≡◌, ◌∙◌, ◌<◌, ◌≤◌, ◌+◌, ◌^◌, nat_le, nat_lt, true, false, ℕ, suc, List, [], ◌∷◌, ◌++◌, length, map, refl, ap, sym, subst, arith, inl, inr, append_assoc, append-nil, add-one, Option, None, Some}
 use Rattle.std.specs.List.{concat}
 use Rattle.std.proofs.lemmas.Bool.{cases_Bool, cases_eq}
 use Rattle.std.proofs.lemmas.Bool.Decides.{nat_tests}
@@ -26,7 +26,7 @@ use Rattle.jx_tier2_writer.specs.TileParts.{AreTilePartsOf}
 use Rattle.jx_rounds.specs.Sent.{PartSent, sent_from, sent_of}
 use Rattle.jx_rounds.specs.Rounds.{BeginsRound, IsInRound, IsRightTile, IsShortFront, IsSpoiledFrom, IsUnmade, IsUnmadeTile, LeadOn, blocks_of, most_of_part, with_parts}
 use Rattle.jx_rounds.specs.MadeRounds.{IsRoundAt}
-use Rattle.jx_rounds.specs.Tiles.{Round, tile_size}
+use Rattle.jx_rounds.specs.Tiles.{Round, begin_round, tile_size}
 use Rattle.jx_rounds.specs.declared.halt.Halt.{Halt}
 use Rattle.jx_rounds.specs.declared.halt.Halt.TheVariants as halt
 use Rattle.jx_base.specs.Limits.{most_blocks}
@@ -135,15 +135,17 @@ round_more p at start count room rest here few fits = record {
 pub round_full : (p : Plan) (at start count room : ℕ) → IsRoundAt p at start count room → 4096 ≤ count + blocks_in p at → BeginsRound p (at + 1)
 round_full p at start count room here many =
     let full : nat_le 4096 (count + blocks_in p at) ≡ true = grind (arith, nat_tests) in
-    rw (add-one, here.is, full) refl
+    let next : at + 1 ≡ suc at = omega arith in
+    rw (add-one, here.is, full) (ap begin_round next)
 
 -- or more bytes than there was room for
 pub round_heavy : (p : Plan) (at start count room : ℕ) → IsRoundAt p at start count room → room < tile_size p.stream at → BeginsRound p (at + 1)
 round_heavy p at start count room here heavy =
     let full : nat_lt 8388608 (here.bytes + tile_size p.stream at) ≡ true = grind (arith, nat_tests) in
+    let next : at + 1 ≡ suc at = omega arith in
     elim (cases_Bool (nat_le 4096 (count + blocks_in p at))) [
-      | inl many ↦ rw (add-one, here.is, many) refl
-      | inr few ↦ rw (add-one, here.is, few, full) refl
+      | inl many ↦ rw (add-one, here.is, many) (ap begin_round next)
+      | inr few ↦ rw (add-one, here.is, few, full) (ap begin_round next)
     ]
 
 pub round_begun : (p : Plan) (at : ℕ) → BeginsRound p at → IsRoundAt p at at 0 8388608

@@ -52,5 +52,6 @@ pub fn room_behind(room: usize, tile: &Tile) -> Option<usize>
 {
     let behind_data = room_behind_data(room, tile.bodies.as_slice())?;
     let behind_header = room_behind_segments(behind_data, tile.header.as_slice())?;
-    room_behind_segments(behind_header, tile.notes.as_slice())
+    let rest = room_behind_segments(behind_header, tile.notes.as_slice())?;
+    Some(rest)
 }
