@@ -1,9 +1,19 @@
-use Rattle.std.proofs.Common.{arith, ◌∙◌, IsTrue, ap, subst, sym}
+use Rattle.std.proofs.Common.{arith, ◌≡◌, ◌∙◌, IsTrue, List, [], Option, None, Some, IfSome, ap, length, refl, subst, sym}
+use Rattle.jx_plan.specs.Plan.{IsPlan, Plan}
+use Rattle.jx_rounds.specs.Rounds.{IsFault, IsTapedTo}
+use Rattle.jx_rounds.specs.declared.halt.Halt.{Halt}
+use Rattle.jx_rounds.specs.declared.tape.TapeEntry.{TapeEntry}
 use Rattle.jx_rounds.specs.FileBytes.{Device}
-use Rattle.jx_rounds.proofs.TapedLemmas.{fault_taped, tape_none, whole_taped}
+use Rattle.jx_rounds.proofs.TapedLemmas.{fault_taped, whole_taped}
 use Rattle.jx_rounds.proofs.WriteLemmas.{first_ends, first_place, halt_fault, refused_cause, refused_rose, unrisen}
 use Rattle.jx_rounds.proofs.FiledLemmas.{created_making, file_halted, file_made, file_uncreated, file_unfinished}
 use Rattle.jx_rounds.proofs.file.write_created.Goals as goal
+
+-- the tape before a file is created
+ready_taped : {T : Type 0} (p : Plan) (held : Option T) (tape : List TapeEntry) (h : Halt) → IsPlan p → IsFault h → (held ≡ None → tape ≡ []) → IfSome held (λ x. length tape ≡ length p.blocks)
+    → IsTapedTo p h (length tape)
+ready_taped p None tape h plan fault fresh full = subst (λ (xs : List TapeEntry). IsTapedTo p h (length xs)) (sym (fresh refl)) (fault_taped p 0 0 h fault (first_place p) (first_ends p))
+ready_taped p (Some x) tape h plan fault fresh full = whole_taped p (length tape) h plan fault full
 
 pub write_ready-requires-clause-may : goal.write_ready-requires-clause-may
 write_ready-requires-clause-may g c = λ lifetimes within. created_making c.args.to.now (g.F.Files.meaning c.args.files.now) (g.F.Files.meaning c.create.new.self) c.in-Ok.ensures.ok
@@ -16,7 +26,7 @@ pub returns-in-Err-clause-err : goal.returns-in-Err-clause-err
 returns-in-Err-clause-err g c = file_uncreated c.args.making.now c.args.to.now c.halt_of.result (g.F.Files.meaning c.args.files.now) (g.F.Files.meaning c.create.new.self) (halt_fault c.halt_of.result c.in-Err.refused c.halt_of.ensures) c.in-Err.ensures.err
 
 pub returns-in-Err-clause-tape : goal.returns-in-Err-clause-tape
-returns-in-Err-clause-tape g c = rw c.requires.empty (tape_none c.args.crew.now.work c.args.making.now.blocks)
+returns-in-Err-clause-tape g c = c.requires.few
 
 pub returns-in-Err-clause-cause : goal.returns-in-Err-clause-cause
 returns-in-Err-clause-cause g c = refused_cause _ _ c.halt_of.result c.in-Err.refused c.halt_of.ensures c.in-Err.ensures.cause
@@ -82,8 +92,8 @@ pub returns-in-Err-write_ready-clause-rose : goal.returns-in-Err-write_ready-cla
 returns-in-Err-write_ready-clause-rose g c = rw (← unrisen _ _ _ c.in-Ok.ensures.cause) c.in-Err-write_ready.ensures.rose
 
 pub returns-in-Err-clause-taped : goal.returns-in-Err-clause-taped
-returns-in-Err-clause-taped g c = rw c.requires.empty
-    (fault_taped c.args.making.now 0 0 c.halt_of.result (halt_fault c.halt_of.result c.in-Err.refused c.halt_of.ensures) (first_place c.args.making.now) (first_ends c.args.making.now))
+returns-in-Err-clause-taped g c =
+    ready_taped c.args.making.now c.args.ready.now.held c.args.tape.now.items c.halt_of.result c.requires.plan (halt_fault c.halt_of.result c.in-Err.refused c.halt_of.ensures) c.requires.fresh c.requires.full
 
 pub returns-in-Err-finish-clause-taped : goal.returns-in-Err-finish-clause-taped
 returns-in-Err-finish-clause-taped g c = whole_taped c.args.making.now _ c.halt_of-in-Err-finish.result c.requires.plan

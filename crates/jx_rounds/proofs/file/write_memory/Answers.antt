@@ -1,3 +1,6 @@
+use Rattle.std.proofs.Common.{subst}
+use Rattle.jx_plan.specs.Plan.{Plan}
+use Rattle.jx_rounds.specs.Heads.{IsCodestreamOf}
 use Rattle.jx_rounds.proofs.MemoryLemmas.{memory_halted, memory_made}
 use Rattle.jx_rounds.specs.declared.halt.Halt.TheVariants as halt
 use Rattle.jx_rounds.proofs.TapedLemmas.{fault_taped}
@@ -14,4 +17,5 @@ pub ready_for-requires-clause-header : goal.ready_for-requires-clause-header
 ready_for-requires-clause-header g c = λ lifetimes within. rw c.new-making.ensures c.in-Ok.ensures
 
 pub returns-in-Ok-write_ready-clause-ok : goal.returns-in-Ok-write_ready-clause-ok
-returns-in-Ok-write_ready-clause-ok g c = memory_made c.args.plan.now _ _ _ _ _ c.new-writer.ensures c.in-Ok-ready_for.ensures.head c.in-Ok-write_ready.ensures.ok c.into_bytes.ensures
+returns-in-Ok-write_ready-clause-ok g c = subst (λ (p : Plan). IsCodestreamOf p c.into_bytes.result.items) c.new-making.ensures
+    (memory_made c.new-making.result _ _ _ _ _ c.new-writer.ensures c.in-Ok-ready_for.ensures.head c.in-Ok-write_ready.ensures.ok c.into_bytes.ensures)

@@ -1,6 +1,5 @@
 use Rattle.std.proofs.lemmas.Result.{IfErr-weaker}
 use Rattle.jx_rounds.proofs.TapedLemmas.{whole_taped}
-use Rattle.jx_rounds.proofs.WriteLemmas.{held_halted}
 use Rattle.jx_rounds.proofs.file.write_ready.Goals as goal
 
 pub write_codestream-requires-clause-empty : goal.write_codestream-requires-clause-empty
