@@ -14,11 +14,12 @@ ghost use Rattle.jx_transcode.specs.Misfits.{IsChoice, IsMisfitOfFile, TellsMisf
 ghost use Rattle.jx_transcode.specs.Outcome.{EndsAs, EndsAsReadFault, IsUntouched, line_of};
 ghost use Rattle.jx_transcode.specs.TranscodeRun.{Ends, TellsPositions};
 
-use crate::around::rewrite_around;
+use crate::around::write_around;
 use crate::input::{read_input, unread_as};
 use crate::judge::{Accepted, read_checked};
+use crate::laws::plans_are_carried_out;
 use crate::lines::line_of;
-use crate::rewrite::{Ending, rewrite, unreduced_by, without_resolutions};
+use crate::rewrite::{Ending, planned, unreduced_by, without_resolutions, write_bare};
 use crate::say::say_line;
 use crate::task::Task;
 use crate::{Report, Status};
@@ -75,6 +76,7 @@ fn answer<R: Threads + Wait + Sync, G: Gate + Sync, F: Files>(
     ensures misfit { IfSome result.misfit (λ misfit.
         IsMisfitOfFile task.now.options.now.precincts task.now.reduce task.now.limit input.now result.status misfit) }
 {
+    plans_are_carried_out();
     gathered_may_be_planned();
     whole_stays();
     let read = match read_checked(alloc, input, task.limit) {
@@ -88,9 +90,13 @@ fn answer<R: Threads + Wait + Sync, G: Gate + Sync, F: Files>(
         Ok(left) => left,
         Err(fault) => return unreduced_by(alloc, fault, count),
     };
+    let plan = match planned(alloc, &left, task.options, planners) {
+        Ok(plan) => plan,
+        Err(ending) => return ending,
+    };
     match source.boxed {
-        None => rewrite(crew, alloc, files, to, &left, task, planners),
-        Some(boxed) => rewrite_around(crew, alloc, files, to, input, &boxed, &left, task, planners),
+        None => write_bare(crew, alloc, files, to, &plan),
+        Some(boxed) => write_around(crew, alloc, files, to, task.form, input, &boxed, &plan),
     }
 }
 
@@ -179,7 +185,15 @@ pub fn run<R: Threads + Wait + Sync, F: Files, S: Sink, G: Gate + Sync>(
     match read_input(alloc, files, request.from(), task.limit) {
         Ok(held) => {
             let input: &[u8] = &held;
-            let ending = answer(&crew, alloc, files, request.to(), input, &task, planners);
+            let ending = answer(
+                &crew,
+                alloc,
+                files,
+                request.to(),
+                input,
+                &task,
+                planners,
+            );
             let positions = keeps_positions(task.form, input, ending.status);
             say_ending(alloc, say, ending, positions)
         }
