@@ -206,9 +206,9 @@ pub fn without_resolutions<'a>(
 /// # Errors
 /// Choice 1, choice 3, choice 2, choice 6, limit 7, choice 4 or choice 5, with the picture's code-blocks and where precincts misfit;
 /// `NoMemory`.
-pub fn planned<'a>(
+pub fn planned<'a, 'b: 'a>(
     alloc: Global,
-    picture: &'a Picture<'a>,
+    picture: &'a Picture<'b>,
     options: &'a Options,
     planners: &mut [Box<dyn LayerPlanner>],
 ) -> Result<OutStream<'a>, Ending>
@@ -222,7 +222,7 @@ pub fn planned<'a>(
         picture.entry.now.stream picture.entry.now.blocks.items options.entry.now ending) }
 {
     let blocks: &[Block<'_>] = &picture.blocks;
-    match plan_served(alloc, &picture.stream, blocks, options, planners) {
+    match plan_served(alloc, &picture.stream, shortened(blocks), options, planners) {
         Ok(plan) => Ok(plan),
         Err(fault) => {
             let misfit = misfit_of(alloc, &picture.stream, options, fault);

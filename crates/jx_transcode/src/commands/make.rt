@@ -37,7 +37,7 @@ const LIMIT: u32 = 268_435_456;
 
 /// How a transcoded picture came out, before anything is said.
 #[derive(Debug, Drop)]
-struct Transcoded {
+struct MadeFile {
     status: Status,
     blocks: u32,
     // after Done, how many bytes were generated
@@ -79,12 +79,12 @@ fn sum_of(bytes: &[u8]) -> u128
 }
 
 /// A generated codestream of which nothing was made.
-fn refused(alloc: Global, status: Status, blocks: u32) -> Transcoded
+fn refused(alloc: Global, status: Status, blocks: u32) -> MadeFile
     ensures status { result.status ≡ status }
     ensures blocks { result.blocks ≡ blocks }
     ensures tape { result.tape.items ≡ [] }
 {
-    Transcoded {
+    MadeFile {
         status,
         blocks,
         before: 0,
@@ -102,7 +102,7 @@ fn transcoded<R: Threads + Wait + Sync, G: Gate + Sync>(
     input: &[u8],
     options: &Options,
     planners: &mut [Box<dyn LayerPlanner>],
-) -> Transcoded
+) -> MadeFile
     requires generated { input.now ≡ input_of asked }
     requires wanted { options.now ≡ wanted_made }
     requires work { crew.now.work ≡ work_made }
@@ -120,7 +120,7 @@ fn transcoded<R: Threads + Wait + Sync, G: Gate + Sync>(
         Err(ending) => return refused(alloc, ending.status, ending.blocks),
     };
     let made = made_in_memory(crew, alloc, &plan);
-    Transcoded {
+    MadeFile {
         status: made.status,
         blocks: made.blocks,
         before: input.len(),
@@ -151,7 +151,7 @@ fn make_line(
 }
 
 /// Says the line of what came out.
-fn say_made<S: Sink>(alloc: Global, say: &mut S, made: Transcoded) -> Report
+fn say_made<S: Sink>(alloc: Global, say: &mut S, made: MadeFile) -> Report
     ensures says { EndsAs made.status (make_line made.status made.blocks made.before made.after made.total) result.status (S.said say.old) (S.said say.new) (S.faults say.old) (S.faults say.new) }
     ensures blocks { result.blocks ≡ made.blocks }
     ensures tape { result.tape.items ≡ made.tape.items }
