@@ -442,7 +442,7 @@ module _ (laws : Laws) (aim : Aim) (input : List ℕ) (s : Stream) (blocks : Lis
   answered name work (Ok count) st n bytes tape old new is ends = rw (ends.0, ends.1) (written name work n count tape old new is.count is.tape is.whole is.ok)
   answered name work (Err why) st n bytes tape old new is ends = rw ends.0 (halted name work n bytes tape old new is.count is.tape why is.err is.taped)
 
--- ---- where it was written to memory
+  -- ---- where it was written to memory
   module _ (work : Work) (n : ℕ) (tape : List TapeEntry) (count : n ≡ length blocks) (of : IsTapeOf work blocks tape) where
     tape_is : IsRunTape work aim.reduce input tape
     tape_is = inr (record { stream = s; blocks = blocks; reads = reads; of = of })

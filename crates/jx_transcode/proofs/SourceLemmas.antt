@@ -90,34 +90,40 @@ unfit_bare name work aim input status.WriteFault mm not is = absurd is
 violates_jp2 : (name : Text) (work : Work) (kind : FormChoice) (aim : Aim) (input : List ℕ) (number place from : ℕ) (inner : List ℕ) (at : ℕ) (mm : Meaning) → IsJp2 input → length input ≤ aim.limit → HasCodestream input from inner → place ≡ from + at
     → Violates inner number at → EndsJp2 name work kind aim input (status.Rule number place) 0 0 [] mm mm
 violates_jp2 name work kind aim input number place from inner at mm is within (inl own) e broken = absurd (own.0 is)
-violates_jp2 name work kind aim input number place from inner at mm is within (inr (jp2, boxed, found, begins, same)) e broken = inr (boxed, record {
-  within = within;
-  found = found;
-  verdict = λ v. (at, e ∙ ap (λ (n : ℕ). n + at) begins, (content_short aim.limit input boxed within, subst (λ (b : List ℕ). Violates b number at) same broken));
-  out = [];
-  tells = refl;
-  leaves = inr (undone (status.Rule number place) tt, untouched mm);
-  tape = inl refl;
-  whole = λ done. absurd (undone (status.Rule number place) tt done);
-  taped = refl;
-})
+violates_jp2 name work kind aim input number place from inner at mm is within (inr (jp2, boxed, found, begins, same)) e broken = inr (
+  boxed,
+  record {
+    within = within;
+    found = found;
+    verdict = λ v. (at, e ∙ ap (λ (n : ℕ). n + at) begins, (content_short aim.limit input boxed within, subst (λ (b : List ℕ). Violates b number at) same broken));
+    out = [];
+    tells = refl;
+    leaves = inr (undone (status.Rule number place) tt, untouched mm);
+    tape = inl refl;
+    whole = λ done. absurd (undone (status.Rule number place) tt done);
+    taped = refl;
+  },
+)
 
 passes_jp2 : (name : Text) (work : Work) (kind : FormChoice) (aim : Aim) (input : List ℕ) (number found from : ℕ) (inner : List ℕ) (mm : Meaning) → IsJp2 input → length input ≤ aim.limit → HasCodestream input from inner → Passes inner number found
     → EndsJp2 name work kind aim input (status.Limit number found) 0 0 [] mm mm
 passes_jp2 name work kind aim input number found from inner mm is within (inl own) passed = absurd (own.0 is)
 passes_jp2 name work kind aim input number found from inner mm is within (inr (jp2, boxed, lies, begins, same)) passed =
     let here : Passes (content input boxed) number found = subst (λ (b : List ℕ). Passes b number found) same passed in
-    inr (boxed, record {
-      within = within;
-      found = lies;
-      verdict = λ v. inl (inr (content_short aim.limit input boxed within, here));
-      out = [];
-      tells = inr (stop_told (content input boxed) (fault.Limit number found) here, refl);
-      leaves = inr (undone (status.Limit number found) tt, untouched mm);
-      tape = inl refl;
-      whole = λ done. absurd (undone (status.Limit number found) tt done);
-      taped = refl;
-    })
+    inr (
+      boxed,
+      record {
+        within = within;
+        found = lies;
+        verdict = λ v. inl (inr (content_short aim.limit input boxed within, here));
+        out = [];
+        tells = inr (stop_told (content input boxed) (fault.Limit number found) here, refl);
+        leaves = inr (undone (status.Limit number found) tt, untouched mm);
+        tape = inl refl;
+        whole = λ done. absurd (undone (status.Limit number found) tt done);
+        taped = refl;
+      },
+    )
 
 pub unfit_jp2 : (name : Text) (work : Work) (kind : FormChoice) (aim : Aim) (input : List ℕ) (s : Status) (mm : Meaning) → IsJp2 input → IsUnfit aim.limit input s → EndsJp2 name work kind aim input s 0 0 [] mm mm
 unfit_jp2 name work kind aim input (status.Rule number place) mm is (within, inl boxes) = boxes_refused name work kind aim input number place mm within boxes.1
@@ -202,10 +208,19 @@ unplanned_jp2 name work kind aim input (Some boxed) from inner s blocks ending m
 
 pub unplanned_misfit : (precincts : Option (List ℕ)) (aim : Aim) (input : List ℕ) (boxed : Option Boxed) (from : ℕ) (inner : List ℕ) (s : Stream) (blocks : List Block) (ending : Ending) (m : Misfit) → precincts ≡ aim.wanted.precincts
     → IsLeftIn aim input boxed from inner s blocks → (over : IsUnplannedEnd (rule_in aim s blocks) s blocks aim.wanted ending) → IsMisfitBy aim.wanted.precincts s over.why m → IsMisfitOfFile precincts aim.reduce aim.limit input ending.status m
-unplanned_misfit precincts aim input None from inner s blocks ending m same is over by = inl (is.lies.0, rw (same, sym is.lies.2)
-    (planned_misfit aim.wanted.precincts aim.reduce aim.limit inner s blocks over.why ending.status m (rw is.lies.2 is.within) is.left over.status_is by))
-unplanned_misfit precincts aim input (Some boxed) from inner s blocks ending m same is over by = inr (is.lies.0, is.within, boxed, is.lies.1, rw (same, sym is.lies.3)
-    (planned_misfit aim.wanted.precincts aim.reduce aim.limit inner s blocks over.why ending.status m (rw is.lies.3 (content_short aim.limit input boxed is.within)) is.left over.status_is by))
+unplanned_misfit precincts aim input None from inner s blocks ending m same is over by = inl (
+  is.lies.0,
+  rw (same, sym is.lies.2)
+      (planned_misfit aim.wanted.precincts aim.reduce aim.limit inner s blocks over.why ending.status m (rw is.lies.2 is.within) is.left over.status_is by),
+)
+unplanned_misfit precincts aim input (Some boxed) from inner s blocks ending m same is over by = inr (
+  is.lies.0,
+  is.within,
+  boxed,
+  is.lies.1,
+  rw (same, sym is.lies.3)
+      (planned_misfit aim.wanted.precincts aim.reduce aim.limit inner s blocks over.why ending.status m (rw is.lies.3 (content_short aim.limit input boxed is.within)) is.left over.status_is by),
+)
 
 -- ---- what is told of a file that is refused is no fault of a device, and doesn't speak of the words
 pub unfit_apart : (limit : ℕ) (input : List ℕ) (s : Status) → IsUnfit limit input s → (s ≡ status.WriteFault → ⊥) × (s ≡ status.ReadFault → ⊥) × (s ≡ status.Words → ⊥)

@@ -271,12 +271,7 @@ pub struct Made {
 }
 
 /// What was made of a plan with so many code-blocks.
-fn made_of(
-    alloc: Global,
-    written: Result<Vec<u8>, Halt>,
-    blocks: u32,
-    tape: Vec<TapeEntry>,
-) -> Made
+fn made_of(alloc: Global, written: Result<Vec<u8>, Halt>, blocks: u32, tape: Vec<TapeEntry>) -> Made
     ensures ok { IfOk written (λ bytes. (result.status ≡ Status.Done) × (result.out.items ≡ bytes.items)) }
     ensures err { IfErr written (λ h. result.status ≡ status_of h) }
     ensures blocks { result.blocks ≡ blocks }

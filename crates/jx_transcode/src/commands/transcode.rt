@@ -11,7 +11,8 @@ ghost use Rattle.jx_transcode.specs.Aims.{MayBeTask, aim_by};
 ghost use Rattle.jx_transcode.specs.Filed.{IsAnswered, IsTooLong, unread_as};
 ghost use Rattle.jx_transcode.specs.Jp2Run.{EndsJp2, KeepsPositions};
 ghost use Rattle.jx_transcode.specs.Misfits.{IsChoice, IsMisfitOfFile, TellsMisfit};
-ghost use Rattle.jx_transcode.specs.Outcome.{EndsAs, EndsAsReadFault, IsUntouched, line_of};
+ghost use Rattle.jx_rounds.specs.Files.{IsUntouched};
+ghost use Rattle.jx_transcode.specs.Outcome.{EndsAs, EndsAsReadFault, line_of};
 ghost use Rattle.jx_transcode.specs.TranscodeRun.{Ends, TellsPositions};
 
 use crate::around::write_around;
@@ -185,15 +186,7 @@ pub fn run<R: Threads + Wait + Sync, F: Files, S: Sink, G: Gate + Sync>(
     match read_input(alloc, files, request.from(), task.limit) {
         Ok(held) => {
             let input: &[u8] = &held;
-            let ending = answer(
-                &crew,
-                alloc,
-                files,
-                request.to(),
-                input,
-                &task,
-                planners,
-            );
+            let ending = answer(&crew, alloc, files, request.to(), input, &task, planners);
             let positions = keeps_positions(task.form, input, ending.status);
             say_ending(alloc, say, ending, positions)
         }

@@ -143,10 +143,13 @@ pub returns-clause-bare : goal.returns-clause-bare
 returns-clause-bare g c = λ not. absurd (not (lies_boxed c.args.input.now c.in-Ok.read.source.boxed c.in-Ok.read.source.from c.in-Ok.read.source.codestream.now c.in-Some.boxed c.in-Some.is c.in-Ok.ensures.source.lies).0)
 
 pub returns-clause-jp2 : goal.returns-clause-jp2
-returns-clause-jp2 g c = λ is. inr (c.in-Some.boxed, around_ends _ _ _ _ c.args.input.now c.in-Some.boxed c.in-Ok-planned.plan _ _ _ _ _ _ c.in-Ok.ensures.within (lies_boxed c.args.input.now c.in-Ok.read.source.boxed c.in-Ok.read.source.from c.in-Ok.read.source.codestream.now c.in-Some.boxed c.in-Some.is c.in-Ok.ensures.source.lies).1
-    (λ st out of. c.plans_are_carried_out.ensures.memory _ _ _ c.in-Ok-without_resolutions.left.stream c.in-Ok-without_resolutions.left.blocks.items c.in-Ok-planned.plan st _ out _ c.requires.task.0 c.in-Ok-planned.ensures.plan (content_short c.args.task.now.limit c.args.input.now c.in-Some.boxed c.in-Ok.ensures.within)
-    (left_boxed c.args.task.now.reduce c.args.input.now c.in-Ok.read.source.codestream.now c.in-Ok.read.source.boxed c.in-Ok.read.source.from c.in-Ok-without_resolutions.left.stream c.in-Ok-without_resolutions.left.blocks.items c.in-Some.boxed c.in-Some.is c.in-Ok.ensures.source.lies
-    (c.in-Ok-without_resolutions.ensures.ok c.in-Ok.read.source.codestream.now c.in-Ok.ensures.reads)) of) c.write_around.ensures.carried)
+returns-clause-jp2 g c = λ is. inr (
+  c.in-Some.boxed,
+  around_ends _ _ _ _ c.args.input.now c.in-Some.boxed c.in-Ok-planned.plan _ _ _ _ _ _ c.in-Ok.ensures.within (lies_boxed c.args.input.now c.in-Ok.read.source.boxed c.in-Ok.read.source.from c.in-Ok.read.source.codestream.now c.in-Some.boxed c.in-Some.is c.in-Ok.ensures.source.lies).1
+      (λ st out of. c.plans_are_carried_out.ensures.memory _ _ _ c.in-Ok-without_resolutions.left.stream c.in-Ok-without_resolutions.left.blocks.items c.in-Ok-planned.plan st _ out _ c.requires.task.0 c.in-Ok-planned.ensures.plan (content_short c.args.task.now.limit c.args.input.now c.in-Some.boxed c.in-Ok.ensures.within)
+      (left_boxed c.args.task.now.reduce c.args.input.now c.in-Ok.read.source.codestream.now c.in-Ok.read.source.boxed c.in-Ok.read.source.from c.in-Ok-without_resolutions.left.stream c.in-Ok-without_resolutions.left.blocks.items c.in-Some.boxed c.in-Some.is c.in-Ok.ensures.source.lies
+      (c.in-Ok-without_resolutions.ensures.ok c.in-Ok.read.source.codestream.now c.in-Ok.ensures.reads)) of) c.write_around.ensures.carried,
+)
 
 pub returns-clause-long : goal.returns-clause-long
 returns-clause-long g c = λ long. absurd (omega (arith, long, c.in-Ok.ensures.within))
