@@ -1,14 +1,12 @@
 mod EntryLemmas
 mod ExtentLemmas
-mod FileLemmas
-pub mod FiledLemmas
+pub mod FileLemmas
 pub mod FrontLemmas
 pub mod IndexLemmas
 mod MeasureLemmas
-mod MemoryLemmas
 mod PackedLemmas
 mod PartLemmas
-mod TakenLemmas
+pub mod TakenLemmas
 pub mod TapedLemmas
 pub mod SentLemmas
 mod TileLemmas

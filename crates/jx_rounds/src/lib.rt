@@ -1,11 +1,10 @@
 //! A plan, written in rounds of tiles: the code-blocks of a round are made by workers, its tile-parts are packed, and then they are
-//! written to a file or to memory, one after another.
+//! written, one after another.
 #![tactic(auto)]
 
 mod blind_writer;
 mod buffer;
 mod crew;
-mod file;
 mod file_writer;
 mod halt;
 mod head;
@@ -14,7 +13,6 @@ mod making;
 mod measure;
 mod memory_writer;
 mod packed;
-mod ready;
 mod room;
 mod rounds;
 mod tape;
@@ -22,9 +20,13 @@ mod tile;
 mod write;
 mod writer;
 
-pub use crew::Crew;
-pub use file::{write_file, write_memory};
-pub use halt::Halt;
+pub use buffer::ENOUGH;
+pub use crew::{Crew, is_anew};
+pub use halt::{Halt, halt_of};
+pub use head::indexed_head;
+pub use making::Making;
+pub use measure::{Held, held_parts, measured_parts};
 pub use memory_writer::MemoryWriter;
 pub use tape::TapeEntry;
+pub use write::{write_codestream, write_held};
 pub use writer::ByteWriter;

@@ -5,6 +5,7 @@
 mod around;
 mod commands;
 mod device;
+mod file;
 mod input;
 mod judge;
 pub mod laws;
