@@ -22,7 +22,7 @@ The picture is the same in each: no coefficient changes. IN may be a JP2 file:
 OUT is one then too (but with --form j2k), and all its other boxes stay byte
 for byte. Boxes that hold positions in the file (fragment tables, indexes)
 may then be wrong.
-docs/RULES.md has all rules and limits.";
+docs/user/statuses.md has all rules and limits.";
 
 pub(crate) static MAKE: &str = "Makes a test picture in memory, transcodes it and says one line";
 
@@ -77,11 +77,13 @@ pub(crate) static SHOW: &str = "Says what the codestream of a file is";
 
 pub(crate) static FACTS: &str = "\
 A line for each fact: its name, a colon and its value. First whether the file
-is a codestream or a JP2 file, and the names of its boxes; then the picture,
-its tiles and components; what the main header says; packets, code-blocks,
-tile-parts, comments and the bytes of the code-blocks, and whether PLT, PLM and
-TLM stand; then what each tile says itself. A line that names no component and
-no tile is said of all of which no other line says otherwise.
+is a codestream or a JP2 file, its brand and the names of its boxes; then the
+picture, its tiles and components; what the main header says; packets,
+code-blocks, tile-parts, comments and the bytes of the code-blocks, and whether
+PLT, PLM and TLM stand; then what each tile says itself. For a tile and a
+component the most specific line holds: that of both, else of the tile, else of
+the component, else of neither. Lines of progression hold together, in place of
+the order.
 
 With --json the same facts are the members of one object, under the same
 names. Two numbers are a list, yes is true, no is false.

@@ -1,6 +1,10 @@
 -- The types of boxes that matter here, each by its four characters (ITU-T T.800, Table I.2, unless another is named).
 use Rattle.std.specs.Prelude.{ℕ}
 
+-- ftyp: the file type (I.5.2)
+abbrev pub ftyp : ℕ
+ftyp = 0x6674_7970
+
 -- jp2c: a contiguous codestream (I.5.4)
 abbrev pub jp2c : ℕ
 jp2c = 0x6A70_3263

@@ -1,5 +1,7 @@
 //! Types of boxes, each by its four characters (ITU-T T.800, Table I.2, unless another is named).
 
+/// `ftyp`: the file type (T.800, I.5.2).
+pub const FTYP: u32 = 0x6674_7970;
 /// `jp2c`: a contiguous codestream (T.800, I.5.4).
 pub const JP2C: u32 = 0x6A70_3263;
 /// `jp2h`: the header, a superbox (T.800, I.5.3).

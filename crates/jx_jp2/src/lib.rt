@@ -18,7 +18,7 @@ mod wrapping;
 pub use faults::BoxFault;
 pub use finding::{find, is_jp2};
 pub use listing::list;
-pub use naming::names;
+pub use naming::{brand, names};
 pub use positions::holds_positions;
 pub use wrapping::{Head, around, head_for};
 

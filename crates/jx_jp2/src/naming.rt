@@ -1,12 +1,14 @@
-//! The names of the boxes on the top level, in one line.
+//! The names of the boxes on the top level, in one line, and the file's brand.
 
 ghost use Rattle.std.specs.Prelude.{◌≡◌, ◌≤◌, ◌++◌, length, string_bytes, OnOk, IfOk};
 ghost use Rattle.std.specs.List.{flat_map, list_all};
 ghost use Rattle.jx_base.specs.Limits.{most_bytes};
-ghost use Rattle.jx_jp2.specs.Names.{AreKinds, HasNames, is_plain, name_text, names_text, next_name, quoted};
+ghost use Rattle.jx_jp2.specs.Names.{AreKinds, HasNames, brand_of, brand_text, is_plain, name_text, names_text, next_name, quoted};
 
 use crate::heads::{read_box, tbox};
+use crate::kinds::FTYP;
 use crate::lines::{is_text, push_digits, push_shown};
+use crate::numbers::u32_at;
 use byteorder::{BigEndian, ByteOrder};
 use std::alloc::{AllocError, Global};
 
@@ -103,4 +105,41 @@ pub fn names(alloc: Global, bytes: &[u8]) -> Result<String, AllocError>
 {
     let kinds = kinds_of(alloc, bytes)?;
     names_text(alloc, &kinds)
+}
+
+// The brand as a number of four bytes; none where no file type box of as many bytes stands behind the signature.
+#[tactic(auto, unfolding(crate::specs::Names::brand_of))]
+fn brand_of(bytes: &[u8]) -> Option<u32>
+    requires { length bytes.now ≤ most_bytes }
+    ensures { result ≡ brand_of bytes.now }
+{
+    if bytes.len() < 12 {
+        return None;
+    }
+    let Ok(boxed) = read_box(bytes, true, bytes.len(), 12) else {
+        return None;
+    };
+    if tbox(bytes, 12) == FTYP && boxed.from + 4 <= boxed.to {
+        return Some(u32_at(bytes, boxed.from as usize));
+    }
+    None
+}
+
+/// The brand of the file type box behind the signature (ITU-T T.800, I.5.2), written as a name of a box; two quotation marks where there is
+/// none.
+///
+/// # Errors
+///
+/// There was no memory.
+#[tactic(auto, unfolding(crate::specs::Names::brand_text))]
+pub fn brand(alloc: Global, bytes: &[u8]) -> Result<String, AllocError>
+    requires { length bytes.now ≤ most_bytes }
+    ensures { IfOk result (λ text. string_bytes text ≡ brand_text (brand_of bytes.now)) }
+{
+    let mut text = String::new(alloc);
+    match brand_of(bytes) {
+        None => text.push_str("\"\"")?,
+        Some(brand) => push_quoted(&mut text, brand)?,
+    }
+    Ok(text)
 }

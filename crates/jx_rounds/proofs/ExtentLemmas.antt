@@ -18,7 +18,7 @@ use Rattle.jx_plan.specs.Plan.{IsPlan, Plan}
 use Rattle.jx_tier2_writer.specs.Tile.{AreMade, IsMade, blocks_in, first_block}
 use Rattle.jx_rounds.specs.MadeRounds.{AreCounts, AreOfBlocks, AreOfRound, AreUpTo, IsExtent}
 use Rattle.jx_rounds.specs.Rounds.{BeginsRound, IsInRound, IsPlace}
-use Rattle.jx_rounds.proofs.FrontLemmas.{block_next, blocks_are, jobs_few, round_full}
+use Rattle.jx_rounds.proofs.FrontLemmas.{block_next, blocks_are, jobs_few}
 use Rattle.jx_base.specs.Limits.{most_blocks}
 
 -- ---- no tile yet, and one tile more
@@ -48,7 +48,7 @@ counts_next p tile count counts are inside is = record {
   ];
 }
 
-pub of_next : (p : Plan) (tile at blocks count : ℕ) (counts more : List ℕ) → AreOfRound p tile counts blocks → at ≡ tile + length counts → at < tile_number p.stream.siz → IsInRound p at tile blocks
+pub of_next : (p : Plan) (tile at blocks count : ℕ) (counts more : List ℕ) → AreOfRound p tile counts blocks → at ≡ tile + length counts → at < tile_number p.stream.siz → IsInRound p at tile
     → count ≡ blocks_in p at → more ≡ counts ++ count ∷ [] → AreOfRound p tile more (blocks + count)
 of_next p tile at blocks count counts more of place inside round is push =
     let long : length more ≡ length counts + 1 = ap length push ∙ length-append counts (count ∷ []) in
@@ -61,24 +61,22 @@ of_next p tile at blocks count counts more of place inside round is push =
           let last : at + 1 ≡ tile + length more = omega (arith, place, long) in
           sum ∙ ap (first_block p) last;
       round = λ t from below. elim (cases_eq t at) [
-        | inl same ↦
-            let held : blocks ≡ first_block p t - first_block p tile = omega (arith, so_far, ap (first_block p) same) in
-            subst (λ (n : ℕ). IsInRound p n tile (first_block p t - first_block p tile)) (sym same) (subst (IsInRound p at tile) held round)
+        | inl same ↦ subst (λ (n : ℕ). IsInRound p n tile) (sym same) round
         | inr other ↦ of.round t from (omega (arith, below, long, place, other))
       ];
     }
 
--- ---- the round is full, or the last tile is in it
-pub extent_full : (p : Plan) (tile at blocks count : ℕ) (counts more : List ℕ) → AreOfRound p tile counts blocks → at ≡ tile + length counts → at < tile_number p.stream.siz → IsInRound p at tile blocks
-    → count ≡ blocks_in p at → more ≡ counts ++ count ∷ [] → 4096 ≤ blocks + count → IsExtent p tile more (blocks + count)
-extent_full p tile at blocks count counts more of place inside round is push many =
+-- ---- another round begins behind the last tile, or it is the last of all
+pub extent_full : (p : Plan) (tile at blocks count : ℕ) (counts more : List ℕ) → AreOfRound p tile counts blocks → at ≡ tile + length counts → at < tile_number p.stream.siz → IsInRound p at tile
+    → count ≡ blocks_in p at → more ≡ counts ++ count ∷ [] → BeginsRound p (at + 1) → IsExtent p tile more (blocks + count)
+extent_full p tile at blocks count counts more of place inside round is push begins =
     let long : length more ≡ length counts + 1 = ap length push ∙ length-append counts (count ∷ []) in
     record {
       of = of_next p tile at blocks count counts more of place inside round is push;
       some = omega (arith, long);
       ends =
           let last : at + 1 ≡ tile + length more = omega (arith, place, long) in
-          inl (subst (BeginsRound p) last (round_full p at tile blocks round (omega (arith, many, is))));
+          inl (subst (BeginsRound p) last begins);
     }
 
 pub extent_last : (p : Plan) (tile blocks tiles : ℕ) (counts : List ℕ) → AreOfRound p tile counts blocks → tiles ≡ tile_number p.stream.siz → tile < tile_number p.stream.siz → tiles ≡ tile + length counts → IsExtent p tile counts blocks
@@ -125,7 +123,7 @@ pub record IsTileAt (p : Plan) (tile at blocks count from : ℕ) : Type 0 where
   pub inside : at < tile_number p.stream.siz
   pub count_is : count ≡ blocks_in p at
   pub within : from + count ≤ blocks
-  pub round : IsInRound p at tile from
+  pub round : IsInRound p at tile
   pub next : first_block p tile + (from + count) ≡ first_block p (at + 1)
 
 pub tile_at : (p : Plan) (tile at blocks count from : ℕ) (counts : List ℕ) → AreOfRound p tile counts blocks → tile ≤ at → at < tile + length counts → count ≡ slice_index_or counts (at - tile) count
@@ -137,12 +135,11 @@ tile_at p tile at blocks count from counts of low high is so_far =
     let counted : count ≡ blocks_in p at = of.counts_are.each i count there ∙ ap (blocks_in p) place in
     let next : first_block p at + blocks_in p at ≡ first_block p (at + 1) = block_next p at (first_block p at) refl in
     let grows : first_block p (at + 1) ≤ first_block p (tile + length counts) = sum_below_grows (blocks_in p) (at + 1) (tile + length counts) (omega (arith, high)) in
-    let held : first_block p at - first_block p tile ≡ from = omega (arith, so_far) in
     record {
       inside = omega (arith, high, of.counts_are.inside);
       count_is = counted;
       within = omega (arith, so_far, counted, next, grows, of.blocks_are);
-      round = subst (IsInRound p at tile) held (of.round at low high);
+      round = of.round at low high;
       next = omega (arith, so_far, counted, next);
     }
 

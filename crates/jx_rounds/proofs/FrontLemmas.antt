@@ -1,7 +1,7 @@
 -- Fronts of a file, tile by tile, and the rounds in which they are written.
-use Rattle.std.proofs.Common.{◌≡◌, ◌∙◌, ◌<◌, ◌≤◌, ◌+◌, ◌^◌, nat_lt, ℕ, List, [], ◌∷◌, ◌++◌, length, map, refl, ap, sym, subst, arith, inl, inr, append_assoc, append-nil, add-one, Option, None, Some}
+use Rattle.std.proofs.Common.{◌≡◌, ◌∙◌, ◌<◌, ◌≤◌, ◌+◌, ◌^◌, nat_le, nat_lt, true, false, ℕ, suc, List, [], ◌∷◌, ◌++◌, length, map, refl, ap, sym, subst, arith, inl, inr, append_assoc, append-nil, add-one, Option, None, Some}
 use Rattle.std.specs.List.{concat}
-use Rattle.std.proofs.lemmas.Bool.{cases_eq}
+use Rattle.std.proofs.lemmas.Bool.{cases_Bool, cases_eq}
 use Rattle.std.proofs.lemmas.Bool.Decides.{nat_tests}
 use Rattle.std.proofs.lemmas.List.Elements.{All-cons, All-head, All-tail}
 use Rattle.jx_base.specs.Joined.{joined}
@@ -25,6 +25,8 @@ use Rattle.jx_tier2_writer.specs.Tile.{AreAtMost, IsTile, blocks_in, first_block
 use Rattle.jx_tier2_writer.specs.TileParts.{AreTilePartsOf}
 use Rattle.jx_rounds.specs.Sent.{PartSent, sent_from, sent_of}
 use Rattle.jx_rounds.specs.Rounds.{BeginsRound, IsInRound, IsRightTile, IsShortFront, IsSpoiledFrom, IsUnmade, IsUnmadeTile, LeadOn, blocks_of, most_of_part, with_parts}
+use Rattle.jx_rounds.specs.MadeRounds.{IsRoundAt}
+use Rattle.jx_rounds.specs.Tiles.{Round, begin_round, tile_size}
 use Rattle.jx_rounds.specs.declared.halt.Halt.{Halt}
 use Rattle.jx_rounds.specs.declared.halt.Halt.TheVariants as halt
 use Rattle.jx_base.specs.Limits.{most_blocks}
@@ -118,11 +120,39 @@ lead_tile p from t next tiles tile all is count first later =
 pub round_none : (p : Plan) → BeginsRound p 0
 round_none p = refl
 
-pub round_more : (p : Plan) (t start held : ℕ) → IsInRound p t start held → held + blocks_in p t < 4096 → IsInRound p (t + 1) start (held + blocks_in p t)
-round_more p t start held is few = rw (add-one, is) (grind (arith, nat_tests))
+pub round_more : (p : Plan) (at start count room rest : ℕ) → IsRoundAt p at start count room → count + blocks_in p at < 4096 → rest + tile_size p.stream at ≡ room
+    → IsRoundAt p (at + 1) start (count + blocks_in p at) rest
+round_more p at start count room rest here few fits = record {
+  bytes = here.bytes + tile_size p.stream at;
+  is =
+      let small : nat_le 4096 (count + blocks_in p at) ≡ false = grind (arith, nat_tests) in
+      let light : nat_lt 8388608 (here.bytes + tile_size p.stream at) ≡ false = grind (arith, nat_tests) in
+      rw (add-one, here.is, small, light) refl;
+  room_is = omega (arith, here.room_is, fits);
+}
 
-pub round_full : (p : Plan) (t start held : ℕ) → IsInRound p t start held → 4096 ≤ held + blocks_in p t → BeginsRound p (t + 1)
-round_full p t start held is many = rw (add-one, is) (grind (arith, nat_tests))
+-- it ends behind a tile at which it has enough blocks
+pub round_full : (p : Plan) (at start count room : ℕ) → IsRoundAt p at start count room → 4096 ≤ count + blocks_in p at → BeginsRound p (at + 1)
+round_full p at start count room here many =
+    let full : nat_le 4096 (count + blocks_in p at) ≡ true = grind (arith, nat_tests) in
+    let next : at + 1 ≡ suc at = omega arith in
+    rw (add-one, here.is, full) (ap begin_round next)
+
+-- or more bytes than there was room for
+pub round_heavy : (p : Plan) (at start count room : ℕ) → IsRoundAt p at start count room → room < tile_size p.stream at → BeginsRound p (at + 1)
+round_heavy p at start count room here heavy =
+    let full : nat_lt 8388608 (here.bytes + tile_size p.stream at) ≡ true = grind (arith, nat_tests) in
+    let next : at + 1 ≡ suc at = omega arith in
+    elim (cases_Bool (nat_le 4096 (count + blocks_in p at))) [
+      | inl many ↦ rw (add-one, here.is, many) (ap begin_round next)
+      | inr few ↦ rw (add-one, here.is, few, full) (ap begin_round next)
+    ]
+
+pub round_begun : (p : Plan) (at : ℕ) → BeginsRound p at → IsRoundAt p at at 0 8388608
+round_begun p at begins = record { bytes = 0; is = begins; room_is = refl }
+
+pub in_round : (p : Plan) (at start count room : ℕ) → IsRoundAt p at start count room → IsInRound p at start
+in_round p at start count room here = ap (λ (r : Round). r.start) here.is
 
 -- ---- numbers of blocks
 pub block_next : (p : Plan) (t block : ℕ) → block ≡ first_block p t → block + blocks_in p t ≡ first_block p (t + 1)
@@ -155,24 +185,22 @@ blocks_few p t plan inside =
     omega (arith, sum_below_more (blocks_in p) t (tile_number p.stream.siz) inside, blocks_are p.stream, plan.all, plan.may.blocks_are.all)
 
 -- ---- a round that isn't made
-pub unmade_of : (p : Plan) (start at held : ℕ) (more : List PartSent) (h : Halt) → at < tile_number p.stream.siz → IsInRound p at start held → LeadOn p start at more
+pub unmade_of : (p : Plan) (start at : ℕ) (more : List PartSent) (h : Halt) → at < tile_number p.stream.siz → IsInRound p at start → LeadOn p start at more
     → IsUnmadeTile p at h → IsUnmade p start h
-unmade_of p start at held more (halt.Bad tile number) inside round lead spoiled = subst (λ (n : ℕ). IsSpoiledFrom p start (halt.Bad n number) n) (sym spoiled.0) (record {
+unmade_of p start at more (halt.Bad tile number) inside round lead spoiled = subst (λ (n : ℕ). IsSpoiledFrom p start (halt.Bad n number) n) (sym spoiled.0) (record {
   inside = inside;
   spoiled = (refl, spoiled.1);
-  held = held;
   round = round;
   below = λ sent front. (sent ++ more, lead sent front);
 })
-unmade_of p start at held more (halt.TooLong tile) inside round lead spoiled = subst (λ (n : ℕ). IsSpoiledFrom p start (halt.TooLong n) n) (sym spoiled.0) (record {
+unmade_of p start at more (halt.TooLong tile) inside round lead spoiled = subst (λ (n : ℕ). IsSpoiledFrom p start (halt.TooLong n) n) (sym spoiled.0) (record {
   inside = inside;
   spoiled = (refl, spoiled.1, spoiled.2);
-  held = held;
   round = round;
   below = λ sent front. (sent ++ more, lead sent front);
 })
-unmade_of p start at held more halt.Failed inside round lead never = absurd never
-unmade_of p start at held more halt.NoMemory inside round lead free = tt
+unmade_of p start at more halt.Failed inside round lead never = absurd never
+unmade_of p start at more halt.NoMemory inside round lead free = tt
 
 -- ---- the headers that are written have the tiles and components of their stream
 pub tiles_stay : (w : Wanted) (layers : ℕ) (s : Stream) → tile_number (headers_with w layers s).siz ≡ tile_number s.siz

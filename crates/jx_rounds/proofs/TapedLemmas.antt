@@ -27,7 +27,6 @@ use Rattle.jx_rounds.proofs.TileLemmas.{get_drop, get_take, made_is, made_later}
 use Rattle.jx_rounds.specs.MadeRounds.{AreMadeAlone, AreUnshared, AreUpTo, IsTapeFrom, TapesOn, entry_of}
 use Rattle.jx_rounds.specs.Rounds.{AreAnswers, EndsRound, HasTape, IsFault, IsOfRound, IsPlace, IsTapedTo, IsUnmade}
 use Rattle.jx_rounds.specs.Tapes.{IsTapeOf, setup_of}
-use Rattle.jx_rounds.specs.Tiles.{Round}
 use Rattle.jx_rounds.specs.declared.halt.Halt.{Halt}
 use Rattle.jx_rounds.specs.declared.halt.Halt.TheVariants as halt
 use Rattle.jx_rounds.specs.declared.tape.TapeEntry.{TapeEntry}
@@ -261,8 +260,8 @@ whole_tape p work tile block tape plan place past whole =
 
 -- ---- where it ends
 pub unmade_round : (p : Plan) (start : ℕ) (h : Halt) → IsUnmade p start h → IsOfRound p start h
-unmade_round p start (halt.Bad tile number) spoiled = ap (λ (r : Round). r.start) spoiled.round
-unmade_round p start (halt.TooLong tile) spoiled = ap (λ (r : Round). r.start) spoiled.round
+unmade_round p start (halt.Bad tile number) spoiled = spoiled.round
+unmade_round p start (halt.TooLong tile) spoiled = spoiled.round
 unmade_round p start halt.Failed never = tt
 unmade_round p start halt.NoMemory free = tt
 

@@ -157,7 +157,6 @@ spoiled_after_head p head h tile old now new wrote after = record {
     sent = after.more;
     front = after.lead [] (front_none p);
     bytes_are = refl;
-    held = after.spoiled.held;
     round = after.spoiled.round;
   };
   written = both_written old now new (head ++ bytes_sent after.more) head (bytes_sent after.more) refl wrote after.written;

@@ -1,5 +1,5 @@
 -- Inner: a round as it is made: what is made of its code-blocks, and of which of its tiles they are.
-use Rattle.std.specs.Prelude.{◌≡◌, ◌⊎◌, ◌<◌, ◌≤◌, ◌+◌, ◌-◌, ℕ, false, List, ◌++◌, drop, is_some, length, map, take, Some, slice_get}
+use Rattle.std.specs.Prelude.{◌≡◌, ◌⊎◌, ◌<◌, ◌≤◌, ◌+◌, ℕ, false, List, ◌++◌, drop, is_some, length, map, take, Some, slice_get}
 use Rattle.std.specs.List.{All, concat, flat_map, list_any, sum}
 use Rattle.jx_codeblock.specs.declared.job.Job.{Job}
 use Rattle.jx_codeblock.specs.Recoded.{WrittenBlock}
@@ -11,7 +11,8 @@ use Rattle.jx_codestream.specs.First.{tile_number}
 use Rattle.jx_options.specs.Work.{Work}
 use Rattle.jx_plan.specs.Plan.{Plan}
 use Rattle.jx_tier2_writer.specs.Tile.{AreMade, blocks_in, first_block}
-use Rattle.jx_rounds.specs.Rounds.{EndsRound, HasTape, IsInRound}
+use Rattle.jx_rounds.specs.Rounds.{EndsRound, HasTape, IsInRound, round_in}
+use Rattle.jx_rounds.specs.Tiles.{most_read}
 use Rattle.jx_rounds.specs.declared.tape.TapeEntry.{TapeEntry}
 use Rattle.jx_base.specs.Limits.{most_bytes}
 
@@ -62,7 +63,13 @@ pub record AreCounts (p : Plan) (tile : ℕ) (counts : List ℕ) : Type 0 where
 pub record AreOfRound (p : Plan) (tile : ℕ) (counts : List ℕ) (blocks : ℕ) : Type 0 where
   pub counts_are : AreCounts p tile counts
   pub blocks_are : first_block p tile + blocks ≡ first_block p (tile + length counts)
-  pub round : (t : ℕ) → tile ≤ t → t < tile + length counts → IsInRound p t tile (first_block p t - first_block p tile)
+  pub round : (t : ℕ) → tile ≤ t → t < tile + length counts → IsInRound p t tile
+
+-- a tile in a round that began at another: the blocks that it has before the tile, and the room for bytes that is left
+pub record IsRoundAt (p : Plan) (at start count room : ℕ) : Type 0 where
+  pub bytes : ℕ
+  pub is : round_in p at ≡ record { start = start; blocks = count; bytes = bytes }
+  pub room_is : bytes + room ≡ most_read
 
 -- the tiles of a round
 pub record IsExtent (p : Plan) (tile : ℕ) (counts : List ℕ) (blocks : ℕ) : Type 0 where

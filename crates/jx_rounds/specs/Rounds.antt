@@ -23,7 +23,7 @@ use Rattle.jx_tier2_writer.specs.Tile.{IsTooLong, blocks_in, first_block}
 use Rattle.jx_tier2_writer.specs.TileParts.{AreTilePartsOf}
 use Rattle.jx_rounds.specs.Sent.{PartSent, bytes_sent, lengths_behind, sent_of}
 use Rattle.jx_rounds.specs.Taken.{SomeFront, followed_by}
-use Rattle.jx_rounds.specs.Tiles.{IsRight, IsWrongAt, round_of}
+use Rattle.jx_rounds.specs.Tiles.{IsRight, IsWrongAt, Round, begin_round, round_of, tile_size}
 use Rattle.jx_rounds.specs.Tapes.{IsTapeOf, setup_of}
 use Rattle.jx_rounds.specs.declared.tape.TapeEntry.{TapeEntry}
 use Rattle.jx_rounds.specs.declared.halt.Halt.{Halt}
@@ -74,13 +74,17 @@ LeadOn p tile next more = (sent : List PartSent) → IsShortFront p tile sent �
 abbrev pub GoesOn : Plan → ℕ → ℕ → Type 0
 GoesOn p tile next = (sent : List PartSent) → IsShortFront p tile sent → (more : List PartSent) × IsShortFront p next more
 
+-- the round of a tile
+abbrev pub round_in : Plan → ℕ → Round
+round_in p tile = round_of (blocks_in p) (tile_size p.stream) tile
+
 -- a round begins at a tile
 abbrev pub BeginsRound : Plan → ℕ → Type 0
-BeginsRound p tile = round_of (blocks_in p) tile ≡ record { start = tile; before = 0 }
+BeginsRound p tile = round_in p tile ≡ begin_round tile
 
--- a tile in a round that began at another, before which it has so many blocks
-abbrev pub IsInRound : Plan → ℕ → ℕ → ℕ → Type 0
-IsInRound p tile start held = round_of (blocks_in p) tile ≡ record { start = start; before = held }
+-- a tile in a round that began at another
+abbrev pub IsInRound : Plan → ℕ → ℕ → Type 0
+IsInRound p tile start = (round_in p tile).start ≡ start
 
 -- a round ends before a tile: another begins there, or it is past the last one
 abbrev pub EndsRound : Plan → ℕ → Type 0
@@ -133,8 +137,7 @@ pub record IsHaltedAt (p : Plan) (head : List ℕ) (why : Halt) (tile : ℕ) (by
   pub sent : List PartSent
   pub front : IsShortFront p start sent
   pub bytes_are : bytes ≡ head ++ bytes_sent sent
-  pub held : ℕ
-  pub round : IsInRound p tile start held
+  pub round : IsInRound p tile start
 
 -- why rounds aren't written, and what has been
 pub record IsHaltedTile (p : Plan) (head : List ℕ) (why : Halt) (tile : ℕ) (old new : Option (List ℕ)) : Type 0 where
@@ -158,8 +161,7 @@ IsHalted p head halt.NoMemory old new = IsHaltedByFault p head old new
 pub record IsSpoiledFrom (p : Plan) (start : ℕ) (why : Halt) (tile : ℕ) : Type 0 where
   pub inside : tile < tile_number p.stream.siz
   pub spoiled : IsSpoiledBy p tile why
-  pub held : ℕ
-  pub round : IsInRound p tile start held
+  pub round : IsInRound p tile start
   pub below : GoesOn p start tile
 
 -- why a tile isn't made; want of memory is free
@@ -216,8 +218,8 @@ IsFault halt.NoMemory = Unit {0}
 
 -- a tile that isn't written is of the round that begins at another
 abbrev pub IsOfRound : Plan → ℕ → Halt → Type 0
-IsOfRound p start (halt.Bad tile number) = (round_of (blocks_in p) tile).start ≡ start
-IsOfRound p start (halt.TooLong tile) = (round_of (blocks_in p) tile).start ≡ start
+IsOfRound p start (halt.Bad tile number) = IsInRound p tile start
+IsOfRound p start (halt.TooLong tile) = IsInRound p tile start
 IsOfRound p start halt.Failed = Unit {0}
 IsOfRound p start halt.NoMemory = Unit {0}
 
@@ -230,8 +232,8 @@ pub record EndWithRound (p : Plan) (blocks : ℕ) : Type 0 where
 -- how many entries the tape has where rounds aren't written: those of the rounds before that of a tile that isn't written, or else of whole
 -- rounds
 abbrev pub IsTapedTo : Plan → Halt → ℕ → Type 0
-IsTapedTo p (halt.Bad tile number) entries = entries ≡ first_block p ((round_of (blocks_in p) tile).start)
-IsTapedTo p (halt.TooLong tile) entries = entries ≡ first_block p ((round_of (blocks_in p) tile).start)
+IsTapedTo p (halt.Bad tile number) entries = entries ≡ first_block p ((round_in p tile).start)
+IsTapedTo p (halt.TooLong tile) entries = entries ≡ first_block p ((round_in p tile).start)
 IsTapedTo p halt.Failed entries = EndWithRound p entries
 IsTapedTo p halt.NoMemory entries = EndWithRound p entries
 

@@ -1,12 +1,17 @@
 -- The code-blocks of a tile, those of them that can't be coded anew (T.800, D.5), and the rounds in which tiles are written.
-use Rattle.std.specs.Prelude.{◌≡◌, ◌<◌, ◌≤◌, ◌+◌, ℕ, zero, suc, nat_le, true, List, slice_get, Option, None, Some, if◌then◌else◌}
+use Rattle.std.specs.Prelude.{◌≡◌, ◌<◌, ◌≤◌, ◌+◌, ◌^◌, ◌||◌, ℕ, zero, suc, nat_le, nat_lt, Bool, true, List, length, map, slice_get, Option, None, Some, if◌then◌else◌}
+use Rattle.std.specs.List.{sum}
 use Rattle.jx_base.specs.declared.pieces.Block.{Block}
 use Rattle.jx_geom.specs.Counts.{tile_blocks}
 use Rattle.jx_geom.specs.Numbering.{blocks_below}
 use Rattle.jx_geom.specs.Rects.{tile_rect}
+use Rattle.jx_marker.specs.declared.Segment.{Segment}
+use Rattle.jx_marker.specs.declared.Segment.TheVariants as segment
+use Rattle.jx_codestream.specs.declared.Body.{Body}
 use Rattle.jx_codestream.specs.declared.Stream.{Stream}
+use Rattle.jx_codestream.specs.declared.Tile.{Tile}
 use Rattle.jx_codestream.specs.First.{canvas_of}
-use Rattle.jx_codestream.specs.Shapes.{shapes_of}
+use Rattle.jx_codestream.specs.Shapes.{shapes_of, tile_at}
 use Rattle.jx_codeblock.specs.Written.{is_wrong}
 use Rattle.jx_options.specs.Wanted.{Wanted}
 
@@ -33,18 +38,49 @@ pub record IsWrongAt (w : Wanted) (s : Stream) (blocks : List Block) (t number :
 abbrev pub IsRight : Wanted → Stream → List Block → ℕ → Type 0
 IsRight w s blocks t = (n : ℕ) → first_in_tile s t ≤ n → n < first_in_tile s t + blocks_in_tile s t → IsWrongBlock w (slice_get blocks n) → ⊥
 
--- rounds: tiles are written in rounds, of which each ends with the first tile at which it has 4,096 blocks, or with the last tile
+-- about how many bytes a segment of a tile's header takes: those of a comment (A.9.2); of any other 256, which are as many as it may have
+abbrev pub segment_size : Segment → ℕ
+segment_size (segment.Com bytes) = length bytes
+segment_size _ = 256
+
+-- about how many bytes a tile has as it was read: the data of its tile-parts and the segments of their headers (A.4.2)
+abbrev pub size_of_tile : Tile → ℕ
+size_of_tile t = sum (map (λ (b : Body). b.length) t.bodies) + (sum (map segment_size t.header) + sum (map segment_size t.notes))
+
+abbrev pub tile_size : Stream → ℕ → ℕ
+tile_size s t = size_of_tile (tile_at s t)
+
+-- rounds: tiles are written in rounds, of which each ends with the first tile at which it has 4,096 blocks or tiles of more than 8,388,608
+-- bytes as they were read, or with the last tile
 abbrev pub most_of_round : ℕ
 most_of_round = 4096
 
--- the round of a tile: where it begins, and the blocks that it has before the tile
+abbrev pub most_read : ℕ
+most_read = 2 ^ 23
+
+-- the round of a tile: where it begins, and the blocks and the bytes that it has before the tile
 pub record Round : Type 0 where
   pub start : ℕ
-  pub before : ℕ
+  pub blocks : ℕ
+  pub bytes : ℕ
 
-abbrev pub next_round : (ℕ → ℕ) → ℕ → Round → Round
-next_round counts t r = if nat_le most_of_round (r.before + counts t) then record { start = t + 1; before = 0 } else record { start = r.start; before = r.before + counts t }
+abbrev pub begin_round : ℕ → Round
+begin_round t = record { start = t; blocks = 0; bytes = 0 }
 
-abbrev pub round_of : (ℕ → ℕ) → ℕ → Round
-round_of counts zero = record { start = 0; before = 0 }
-round_of counts (suc t) = next_round counts t (round_of counts t)
+abbrev pub with_tile : ℕ → ℕ → Round → Round
+with_tile count size r = record { start = r.start; blocks = r.blocks + count; bytes = r.bytes + size }
+
+abbrev pub is_full : Round → Bool
+is_full r = nat_le most_of_round r.blocks || nat_lt most_read r.bytes
+
+abbrev pub next_round : (ℕ → ℕ) → (ℕ → ℕ) → ℕ → Round → Round
+next_round counts sizes t r = if is_full (with_tile (counts t) (sizes t) r) then begin_round (t + 1) else with_tile (counts t) (sizes t) r
+
+-- where tiles have so many blocks and so many bytes
+abbrev pub round_of : (ℕ → ℕ) → (ℕ → ℕ) → ℕ → Round
+round_of counts sizes zero = begin_round 0
+round_of counts sizes (suc t) = next_round counts sizes t (round_of counts sizes t)
+
+-- the first tile of a tile's round
+abbrev pub round_start : Stream → ℕ → ℕ
+round_start s t = (round_of (blocks_in_tile s) (tile_size s) t).start

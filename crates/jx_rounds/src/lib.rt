@@ -13,6 +13,7 @@ mod making;
 mod measure;
 mod memory_writer;
 mod packed;
+mod room;
 mod rounds;
 mod tape;
 mod tile;

@@ -3,11 +3,12 @@
 ghost use Rattle.std.specs.Prelude.{◌≡◌, ◌≤◌, ◌<◌, ◌+◌, drop, length, take};
 ghost use Rattle.jx_workers.specs.Tapes.{AreAsked};
 ghost use Rattle.jx_codestream.specs.First.{tile_number};
+ghost use Rattle.jx_codestream.specs.Shapes.{tile_at};
 ghost use Rattle.jx_plan.specs.Plan.{IsPlan, headers_of};
 ghost use Rattle.jx_tier2_writer.specs.Tile.{blocks_in};
 
 use jx_codeblock::Job;
-use jx_codestream::MainView;
+use jx_codestream::{MainView, Tile};
 use jx_plan::OutStream;
 use std::marker::Model;
 
@@ -80,6 +81,15 @@ impl<'a, 'p> Making<'a, 'p> {
     {
         let _ = self.plan.jobs();
         self.plan.stream().tile_count()
+    }
+
+    /// A tile as it was read.
+    pub fn tile(&self, tile: u16) -> &'a Tile
+        requires { tile < tile_number self.now.stream.siz }
+        ensures { result.now ≡ tile_at self.now.stream tile }
+    {
+        let _ = self.plan.jobs();
+        self.plan.stream().tile(tile)
     }
 
     /// How many code-blocks a tile has.

@@ -17,9 +17,8 @@ enum Form<'a, 'b> {
     Whole(Vec<Vec<u8>>),
 }
 
-/// A tile that is ready to be written. One that is a round of its own, or has as many code-blocks as make a round, or a long tile-part and
-/// more bytes than its lists take, is put together but for its coded bytes; others keep their bytes in place of their geometry and lists,
-/// which may take far more. Contracts see each tile-part as its pieces.
+/// A tile that is ready to be written. The last of a round is put together but for its coded bytes. Those before it keep their bytes, which
+/// a round bounds, in place of their geometry and lists, which may take far more. Contracts see each tile-part as its pieces.
 #[derive(Drop)]
 pub struct Packed<'a, 'b> {
     form: Form<'a, 'b>,

@@ -1,4 +1,5 @@
-//! Rounds of tiles: consecutive ones, up to the first at which a round has 4,096 code-blocks, or up to the last tile.
+//! Rounds of tiles: consecutive ones, up to the first at which a round has 4,096 code-blocks or tiles of more than 8 MiB as they were
+//! read, or up to the last tile.
 
 ghost use Rattle.std.specs.Prelude.{◌≡◌, ◌<◌, ◌≤◌, ◌+◌, ℕ, [], length, map, IfOk, IfErr, OnOk};
 ghost use Rattle.jx_codestream.specs.First.{tile_number};
@@ -13,6 +14,7 @@ use crate::crew::{Crew, made_blocks};
 use crate::halt::Halt;
 use crate::making::Making;
 use crate::packed::Packed;
+use crate::room::room_behind;
 use crate::tile::packed_tile;
 use jx_base::NoMemory;
 use jx_codeblock::Recoded;
@@ -24,6 +26,9 @@ use std::sync::Wait;
 use std::thread::Threads;
 
 const ROUND_BLOCKS: u32 = 4096;
+
+/// The most bytes, as they were read, of the tiles of a round but for its last.
+const ROUND_BYTES: usize = 8_388_608;
 
 /// How many code-blocks each tile of a round has, and all of them; the tile after it, and the number of that tile's first code-block.
 #[derive(Drop)]
@@ -49,12 +54,17 @@ fn put_counts(making: &Making<'_, '_>, tile: u16, each: &mut Vec<u32>) -> Result
     ensures { IfOk result (λ all. IsExtent making.now tile each.new.items all) }
 {
     let mut all = 0;
+    let mut room = ROUND_BYTES;
     for at in tile..making.tile_count() {
         let count = making.blocks_in(at);
         each.push(count)?;
         all += count;
         if all >= ROUND_BLOCKS {
             return Ok(all);
+        }
+        match room_behind(room, making.tile(at)) {
+            Some(rest) => room = rest,
+            None => return Ok(all),
         }
     }
     Ok(all)
@@ -153,12 +163,11 @@ fn push_tiles<'a, 'b>(
     ensures whole { OnOk result (length entries.now ≡ extent.now.blocks) }
     ensures unmade { IfErr result (λ h. IsUnmade making.now tile h) }
 {
-    let alone = extent.counts.len() == 1;
     let mut from = 0;
     for at in tile..extent.tile {
         let count = extent.counts[(at - tile) as usize];
         let to = from + count as usize;
-        let laid = alone || count >= ROUND_BLOCKS;
+        let laid = at + 1 == extent.tile;
         let end = to.min(entries.len());
         match push_packed(alloc, making, at, &entries[from..end], laid, tiles) {
             Ok(()) => {}

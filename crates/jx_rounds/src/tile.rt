@@ -46,28 +46,7 @@ fn first_unmade(entries: &[Entry<Recoded<'_>>]) -> Option<u32>
     None
 }
 
-/// A tile-part of so many bytes is long: a tile that has one may wait for its round without its coded bytes, which go through one buffer
-/// then.
-const LONG_PART: u32 = 65_536;
-
-/// A tile that waits without its coded bytes keeps its geometry and lists, which take up to so many bytes for each piece of its tile-parts,
-/// however few the packet has. With fewer than that for each piece its bytes are kept instead.
-const PIECE_BYTES: usize = 64;
-
-/// Whether one of the tile-parts is long, and all have so many bytes that the tile's lists take less.
-fn has_long_part(out: &TileOut<'_, '_>) -> bool {
-    let mut is_long = false;
-    let mut bytes: usize = 0;
-    let mut pieces: usize = 0;
-    for part in 0..out.parts() {
-        is_long = is_long || out.size(part) >= LONG_PART;
-        bytes = bytes.saturating_add(out.size(part) as usize);
-        pieces = pieces.saturating_add(out.pieces(part));
-    }
-    is_long && bytes / PIECE_BYTES >= pieces
-}
-
-/// A tile as it waits for its round: put together but for its coded bytes where that is asked, or where they take more than all else.
+/// A tile as it waits for its round: put together, where it is asked but for its coded bytes.
 fn settled<'a, 'b>(
     alloc: Global,
     out: TileOut<'a, 'b>,
@@ -75,7 +54,7 @@ fn settled<'a, 'b>(
 ) -> Result<Packed<'a, 'b>, NoMemory>
     ensures { IfOk result (λ packed. map concat packed ≡ map concat out.entry) }
 {
-    if laid || has_long_part(&out) {
+    if laid {
         return Ok(Packed::laid(out));
     }
     Ok(Packed::whole(whole_parts(alloc, &out)?))

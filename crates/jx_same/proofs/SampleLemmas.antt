@@ -13,13 +13,10 @@ use Rattle.jx_base.specs.declared.names.Span.{Span}
 use Rattle.jx_base.specs.declared.pieces.Block.{Block}
 use Rattle.jx_base.specs.Places.{InRect, InSpan, size_of}
 use Rattle.jx_base.specs.Sound.{IsSound}
-use Rattle.jx_base.specs.Joined.{sum_below}
 use Rattle.jx_base.proofs.Lists.{all_at}
-use Rattle.jx_base.proofs.Sums.{sum_below_grows, sum_below_next}
 use Rattle.jx_geom.specs.Geometry.{Geometry, HasBlock, HasResolution, blocks_in, rect_of_tile, shape_of}
 use Rattle.jx_geom.specs.Numbering.{IsBlock, block_number, blocks_below, number_in_tile}
-use Rattle.jx_geom.specs.Counts.{tile_blocks}
-use Rattle.jx_geom.specs.Rects.{block_rect, tile_rect}
+use Rattle.jx_geom.specs.Rects.{block_rect}
 use Rattle.jx_geom.proofs.NumberLemmas.{block_number_taken}
 use Rattle.jx_progression.specs.Loops.{is_in}
 use Rattle.jx_codestream.specs.declared.Stream.{Stream}
@@ -231,19 +228,6 @@ lies v n first k g side before own is has =
       inside = slice_get_within v.blocks (first + k) block.block at;
       few = omega (arith, side.may.blocks_are.all, few_blocks v.stream side.may.totals);
     }
-
--- how many blocks there are up to the end of a tile
-pub record Behind (s : Stream) (t number : ℕ) : Type 0 where
-  pub value : number ≡ blocks_below (canvas_of s.siz) (shapes_of s) (t + 1)
-  pub few : number ≤ most_blocks
-
-pub behind_is : (s : Stream) (t first count : ℕ) → totals_fault s ≡ None → t < tile_number s.siz → first ≡ blocks_below (canvas_of s.siz) (shapes_of s) t
-    → count ≡ tile_blocks (tile_rect (canvas_of s.siz) t) (shapes_of s t) → Behind s t (first + count)
-behind_is s t first count totals inside before own =
-    let f : ℕ → ℕ = λ i. tile_blocks (tile_rect (canvas_of s.siz) i) (shapes_of s i) in
-    let next : sum_below f (t + 1) ≡ sum_below f t + f t = sum_below_next f t in
-    let most : sum_below f (t + 1) ≤ sum_below f (tile_number s.siz) = sum_below_grows f (t + 1) (tile_number s.siz) (omega arith) in
-    record { value = omega arith; few = omega (arith, blocks_are s, few_blocks s totals) }
 
 -- ---- a block by its index in a band
 abbrev pub block_name : ℕ → BandName → ℕ → BlockName

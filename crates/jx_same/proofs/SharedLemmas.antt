@@ -29,6 +29,7 @@ use Rattle.jx_same.specs.Sides.{SideValue, meaning_in}
 use Rattle.jx_same.proofs.BlockLemmas.{shape_is}
 use Rattle.jx_same.proofs.FindLemmas.{behind, joined_all, joined_each}
 use Rattle.jx_same.proofs.OneLemmas.{coding_none, step_none}
+use Rattle.jx_same.proofs.RowLemmas.{from_each}
 use Rattle.jx_same.proofs.TileLemmas.{side_of}
 use Rattle.jx_same.proofs.WithinLemmas.{bands_all, none_coding, none_step}
 
@@ -130,12 +131,16 @@ pub headers_beside : (P : Stream → Stream → ℕ → Type 0) (i j : Input) (u
 headers_beside P i j u v t own other same =
     subst (λ (x : SideValue). P x.stream v.stream x.tile) (sym own) (subst (λ (x : SideValue). P i.stream.now x.stream t) (sym other) same)
 
--- where no value of the tiles before a tile differs, the headers of the tile before it say the same
-pub headers_before : (i j : Input) (t : ℕ) → 0 < t → find (differs (meaning_in i) (meaning_in j)) (joined (tile_items i.stream.now) 0 t) ≡ None
+pub changed_beside : (i j : Input) (u v : SideValue) (t c : ℕ) → u ≡ side_of i t → v ≡ side_of j t
+    → (c < length i.stream.now.siz.comps → SameHeaders i.stream.now j.stream.now t c) → c < length u.stream.siz.comps → SameHeaders u.stream v.stream u.tile c
+changed_beside i j u v t c own other same = headers_beside (λ (x y : Stream) (n : ℕ). c < length x.siz.comps → SameHeaders x y n c) i j u v t own other same
+
+-- where no value of tiles up to a tile differs, the headers of the tile before it say the same, if it is one of them
+pub headers_before : (i j : Input) (low t : ℕ) → low < t → find (differs (meaning_in i) (meaning_in j)) (joined (tile_items i.stream.now) low t) ≡ None
     → AreSameHeaders i.stream.now j.stream.now (t - 1)
-headers_before i j t some none =
+headers_before i j low t some none =
     headers_none i.stream.now j.stream.now i.blocks.now j.blocks.now (t - 1)
-    (joined_each (differs (meaning_in i) (meaning_in j)) (tile_items i.stream.now) (t - 1) t none (omega arith))
+    (from_each (differs (meaning_in i) (meaning_in j)) (tile_items i.stream.now) low t (t - 1) none (omega (arith, some)) (omega (arith, some)))
 
 -- ---- what is known after a tile
 pub known_after : (known bare : Bool) (P : Type 0) → (known ≡ true → P) → (bare ≡ true → P) → (known || bare) ≡ true → P

@@ -1,6 +1,7 @@
 -- Code-blocks of a band, cut into runs that threads compare one by one.
-use Rattle.std.specs.Prelude.{ℕ, ◌+◌, ◌*◌, ◌≡◌, ◌≤◌, ◌<◌, Bool, false, true, List, find, min, Option, Result, IfOk, slice_get, None, Some}
+use Rattle.std.specs.Prelude.{ℕ, ◌+◌, ◌*◌, ◌≡◌, ◌≤◌, ◌<◌, Bool, false, true, List, find, min, Option, Result, IfOk, length, slice_get, None, Some}
 use Rattle.jx_base.specs.declared.names.Rect.{Rect}
+use Rattle.jx_base.specs.declared.pieces.Block.{Block}
 use Rattle.jx_base.specs.Joined.{joined}
 use Rattle.jx_base.specs.Places.{size_of}
 use Rattle.jx_same.specs.declared.answer.Spot.{Spot}
@@ -64,3 +65,9 @@ unit_items true f wide = row_items f wide 0 wide
 abbrev pub unit_count : Bool → Walk → ℕ
 unit_count false w = w.count
 unit_count true w = w.high
+
+-- ---- the code-blocks of the tiles below one are the first `count`, and all others are of that tile and later ones
+pub record AreBlocksBelow (blocks : List Block) (tile count : ℕ) : Type 0 where
+  pub inside : count ≤ length blocks
+  pub before : (number : ℕ) (b : Block) → slice_get blocks number ≡ Some b → number < count → b.name.tile < tile
+  pub behind : (number : ℕ) (b : Block) → slice_get blocks number ≡ Some b → count ≤ number → tile ≤ b.name.tile

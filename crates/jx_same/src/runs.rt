@@ -1,16 +1,16 @@
 //! The code-blocks of a band: runs of them, each of which a thread compares.
 
-ghost use Rattle.std.specs.Prelude.{◌≡◌, ◌<◌, ◌≤◌, ◌+◌, ◌*◌, ◌^◌, ℕ, Bool, List, find, length, IfOk};
+ghost use Rattle.std.specs.Prelude.{◌≡◌, ◌<◌, ◌≤◌, ◌+◌, ◌*◌, ◌^◌, find, IfOk};
 ghost use Rattle.jx_base.specs.Joined.{joined};
 ghost use Rattle.jx_base.specs.Places.{size_of};
 ghost use Rattle.jx_geom.specs.Geometry.{blocks_in};
-ghost use Rattle.jx_same.specs.declared.answer.Spot.{Spot};
 ghost use Rattle.jx_same.specs.Items.{block_items, differs};
-ghost use Rattle.jx_same.specs.Runs.{AreFirsts, IsWalk, cut_at, unit_count, unit_items};
+ghost use Rattle.jx_same.specs.Runs.{IsWalk, cut_at, unit_count, unit_items};
 ghost use Rattle.jx_same.specs.Sides.{AreAligned, HasBandOf, geometry_at, meaning_at};
 
 use crate::Spot;
 use crate::cells::{cell_end, compare_between, compare_rows};
+use crate::cuts::{Cut, cut_at, cut_evenly, first_found};
 use crate::shelf::Shelf;
 use crate::side::{BandName, Side, Walk};
 use jx_base::NoMemory;
@@ -26,15 +26,6 @@ const HEAVY: u64 = 1 << 20;
 
 /// The exponent of the number of places whose code-blocks all threads together have decoded at a time.
 const AT_HAND: u32 = 22;
-
-/// A part of a band in runs of `size` units, of which the last may have fewer.
-#[derive(Clone, Copy, Debug)]
-struct Cut {
-    low: u32,
-    high: u32,
-    size: u32,
-    runs: u32,
-}
 
 /// How many units a band has.
 fn unit_count(walk: Walk) -> u32
@@ -69,35 +60,6 @@ fn compare_run(
     }
     let mut shelf = Shelf::new(alloc, b.in_cells(name, a));
     compare_between(alloc, a, b, &mut shelf, name, low, high)
-}
-
-/// Where the run of a number begins.
-fn cut_at(low: u32, size: u32, high: u32, number: u32) -> u32
-    ensures { result ≡ cut_at low size high number }
-{
-    low.saturating_add(number.saturating_mul(size)).min(high)
-}
-
-/// What a run answered.
-fn answer_in(answer: &Result<Option<Spot>, NoMemory>) -> Result<Option<Spot>, NoMemory>
-    ensures { result ≡ answer.now }
-{
-    match answer {
-        Ok(found) => Ok(*found),
-        Err(NoMemory) => Err(NoMemory),
-    }
-}
-
-/// The first spot of the answers of runs, or the error of the first run that has one and stands before it.
-fn first_found(answers: &[Result<Option<Spot>, NoMemory>]) -> Result<Option<Spot>, NoMemory>
-    ensures { (p : Spot → Bool) → (f : ℕ → List Spot) → AreFirsts p f answers.now → IfOk result (λ found. found ≡ find p (joined f 0 (length answers.now))) }
-{
-    for answer in answers {
-        if let Some(spot) = answer_in(answer)? {
-            return Ok(Some(spot));
-        }
-    }
-    Ok(None)
 }
 
 /// The same of a part in runs, each in a thread of its own where one can be made.
@@ -191,14 +153,7 @@ fn next_cut(walk: Walk, low: u32, threads: u32) -> Cut
     if walk.by_rows {
         return cut_rows(walk, low, threads);
     }
-    let taken = (threads * SHARE_BLOCKS).min(walk.count - low);
-    let size = taken.div_ceil(threads);
-    Cut {
-        low,
-        high: low + taken,
-        size,
-        runs: taken.div_ceil(size),
-    }
+    cut_evenly(low, walk.count, SHARE_BLOCKS, threads)
 }
 
 /// The same in whole rows.

@@ -15,10 +15,11 @@ ghost use Rattle.jx_same.specs.Items.{rect_in};
 ghost use Rattle.jx_same.specs.Runs.{IsWalk};
 ghost use Rattle.jx_same.specs.Sides.{Covers, HasBandOf, IsEmptyIn, IsInput, IsSide, geometry_at};
 
+use crate::first::blocks_before;
 use crate::input::Input;
 use jx_base::{Band, Block, BlockName, NoMemory, Rect};
 use jx_codestream::{MainView, Params, Stream, TileView};
-use jx_geom::{CompShape, TileGeom, count_known, is_empty_after};
+use jx_geom::{CompShape, TileGeom, is_empty_after};
 use jx_tile::TileFrame;
 use std::alloc::Global;
 use std::marker::Model;
@@ -81,23 +82,6 @@ impl<'a> Model for Side<'a> {
         × (s.first ≡ blocks_below (canvas_of s.frame.stream.siz) (shapes_of s.frame.stream) s.frame.number) };
 }
 
-/// How many code-blocks a tile of these places has. A component without a place takes a few operations.
-#[tactic(auto, using(jx_geom::proofs::TableLemmas::blocks_more))]
-fn count_tile(places: Rect, shapes: &[CompShape]) -> u128
-    requires few { length shapes.now ≤ 2 ^ 14 }
-    requires range { ShapesInRange shapes.now }
-    ensures blocks { result ≡ tile_blocks places shapes.now }
-    ensures bound { result < 2 ^ 87 }
-{
-    let mut blocks = 0;
-    let mut none = false;
-    for comp in 0..shapes.len() {
-        none = is_empty_after(places, shapes, comp, none);
-        blocks += count_known(places, &shapes[comp], none).0;
-    }
-    blocks
-}
-
 /// The exponents of a code-block's width and height (T.800, B.7).
 fn block_exponents(shape: &CompShape, res: u8) -> (u32, u32)
     requires shape { ShapeInRange shape.now }
@@ -157,7 +141,8 @@ fn index_over(
 }
 
 impl<'a> Side<'a> {
-    /// A codestream at a tile, behind so many code-blocks of earlier tiles.
+    /// A codestream at a tile. Its first code-block is looked for by the tiles in the names of code-blocks, so the time grows with the
+    /// binary digits of their number.
     ///
     /// # Errors
     ///
@@ -167,19 +152,17 @@ impl<'a> Side<'a> {
         input: Input<'a>,
         main: &'a MainView<'a>,
         tile: u16,
-        first: usize,
     ) -> Result<Side<'a>, NoMemory>
         requires input { IsInput input }
         requires main { main.now ≡ record { siz = input.stream.now.siz; main = input.stream.now.main } }
         requires tile { tile < tile_number input.stream.now.siz }
-        requires first { first ≡ blocks_below (canvas_of input.stream.now.siz) (shapes_of input.stream.now) tile }
         ensures { IfOk result (λ side. side ≡ record { stream = input.entry.stream.now; blocks = input.entry.blocks.now; tile = tile }) }
     {
         let frame = TileFrame::new(alloc, input.stream, main, tile)?;
         Ok(Side {
             frame,
             blocks: input.blocks,
-            first,
+            first: blocks_before(input.blocks, tile),
         })
     }
 
@@ -216,14 +199,6 @@ impl<'a> Side<'a> {
     {
         let (_, view, geom) = self.frame.parts();
         is_empty_after(geom.tile(), view.shapes(), usize::from(comp), last)
-    }
-
-    /// How many code-blocks the codestream has up to the end of the tile.
-    pub(crate) fn behind(&self) -> usize
-        ensures { result ≡ blocks_below (canvas_of self.now.stream.siz) (shapes_of self.now.stream) (self.now.tile + 1) }
-    {
-        let (_, view, geom) = self.frame.parts();
-        self.first + count_tile(geom.tile(), view.shapes()) as usize
     }
 
     /// The decomposition levels of a component, 0 to 32.

@@ -10,7 +10,7 @@ ghost use Rattle.jx_same.specs.declared.answer.Answer.TheVariants as told;
 
 use crate::headers::compare_pictures;
 use crate::input::Input;
-use crate::tiles::compare_tiles;
+use crate::rounds::compare_tiles;
 use crate::values::difference_at;
 use crate::{Answer, Spot};
 use jx_base::{Block, NoMemory};
@@ -43,8 +43,8 @@ fn first_differing<R: Threads + Sync>(
 /// layers, precincts, sizes of code-blocks and styles are. The first value that differs is told, as both have it, in the order of `a`'s code-blocks.
 ///
 /// Code-blocks of both that have the same places, passes, style and segments aren't decoded. The others are, by `threads` threads, 1 to
-/// 64, on which the answer doesn't depend; with one none is started. Each takes a run of at most 16 code-blocks of one band of `a`, and
-/// has one code-block of it decoded at a time.
+/// 64, on which the answer doesn't depend; with one none is started. Each takes a run of small tiles, or in larger ones a run of at most
+/// 16 code-blocks of one band of `a`, and has one code-block of `a` decoded at a time.
 ///
 /// # Errors
 ///

@@ -1,3 +1,3 @@
 mod SumLemmas
 mod TileLemmas
-mod FactLemmas
+mod TextLemmas

@@ -1,7 +1,7 @@
 -- The facts of a codestream in their order: those of SIZ (A.5.1), those of the main header's segments, totals, then what each tile's own
--- header says (ITU-T T.800, A.6). A fact that no component and no tile is named in is said of all to which no later one says another.
+-- header says (ITU-T T.800, A.6). Of a tile or a component holds what names it, and else what names neither.
 use Rattle.std.specs.Prelude.{ℕ, ◌+◌, ◌-◌, ◌/◌, ◌%◌, ◌^◌, ◌==◌, ◌&&◌, not, nat_lt, Bool, true, false, List, [], ◌∷◌, ◌++◌, length, min, sum_by, Option, None, Some, if◌then◌else◌}
-use Rattle.std.specs.List.{filter, flat_map}
+use Rattle.std.specs.List.{filter, flat_map, list_all}
 use Rattle.jx_base.specs.declared.pieces.Block.{Block}
 use Rattle.jx_base.specs.Joined.{joined, sum_below}
 use Rattle.jx_base.specs.Pieces.{bytes_in}
@@ -31,8 +31,13 @@ use Rattle.jx_show.specs.declared.fact.Word.{Word}
 use Rattle.jx_show.specs.declared.fact.Word.TheVariants as word
 use Rattle.jx_show.specs.Orders.{own_entries}
 
-abbrev pub fact : Name → About → Value → Fact
-fact n a v = record { name = n; about = a; value = v }
+-- what is stated: a fact, or the precincts of all resolutions by the bytes of COD or COC (Table A.21)
+pub data Statement : Type 0 where
+  One : Fact → Statement
+  Precincts : About → List ℕ → Statement
+
+abbrev pub fact : Name → About → Value → Statement
+fact n a v = One (record { name = n; about = a; value = v })
 
 -- of a tile, or of all tiles
 abbrev pub of_tile : Option ℕ → About
@@ -45,11 +50,11 @@ of_comp t c = record { number = None; comp = Some c; tile = t }
 abbrev pub numbered : About → ℕ → About
 numbered a n = record a { number = Some n }
 
-abbrev pub kept : Bool → Fact → List Fact
+abbrev pub kept : Bool → Statement → List Statement
 kept holds f = if holds then f ∷ [] else []
 
 -- ---- SIZ (A.5.1)
-abbrev pub picture_facts : Siz → List Fact
+abbrev pub picture_facts : Siz → List Statement
 picture_facts siz =
     fact name.Profile (of_tile None) (value.Count siz.rsiz)
     ∷ fact name.Size (of_tile None) (value.Size (siz.x1 - siz.x0) (siz.y1 - siz.y0))
@@ -67,29 +72,29 @@ depth_of size = size.ssiz % 128 + 1
 abbrev pub sign_word : ℕ → Word
 sign_word ssiz = if ssiz / 128 == 0 then word.Unsigned else word.Signed
 
-abbrev pub depth_fact : About → CompSize → Fact
+abbrev pub depth_fact : About → CompSize → Statement
 depth_fact a size = fact name.Depth a (value.Count (depth_of size))
 
-abbrev pub sign_fact : About → CompSize → Fact
+abbrev pub sign_fact : About → CompSize → Statement
 sign_fact a size = fact name.Sign a (value.Word (sign_word size.ssiz))
 
-abbrev pub sampling_fact : About → CompSize → Fact
+abbrev pub sampling_fact : About → CompSize → Statement
 sampling_fact a size = fact name.Sampling a (value.Size size.dx size.dy)
 
 -- those of the first component, and those of another one in which it differs from the first
-abbrev pub first_facts : CompSize → List Fact
+abbrev pub first_facts : CompSize → List Statement
 first_facts size = depth_fact (of_tile None) size ∷ sign_fact (of_tile None) size ∷ sampling_fact (of_tile None) size ∷ []
 
-unfoldable pub differing_facts : CompSize → ℕ → CompSize → List Fact
+unfoldable pub differing_facts : CompSize → ℕ → CompSize → List Statement
 differing_facts first c size =
     kept (not (depth_of size == depth_of first)) (depth_fact (of_comp None c) size)
     ++ (kept (not (size.ssiz / 128 == first.ssiz / 128)) (sign_fact (of_comp None c) size)
     ++ kept (not (size.dx == first.dx && size.dy == first.dy)) (sampling_fact (of_comp None c) size))
 
-abbrev pub comp_facts : Siz → ℕ → List Fact
+abbrev pub comp_facts : Siz → ℕ → List Statement
 comp_facts siz c = differing_facts (size_in siz 0) c (size_in siz c)
 
-abbrev pub size_facts : Siz → List Fact
+abbrev pub size_facts : Siz → List Statement
 size_facts siz = first_facts (size_in siz 0) ++ joined (comp_facts siz) 0 (length siz.comps)
 
 -- ---- headers (A.6)
@@ -105,55 +110,49 @@ quantization_word style = if style == 0 then word.Nothing else if style == 1 the
 abbrev pub side_of : ℕ → ℕ
 side_of exponent = 2 ^ min exponent 15
 
-abbrev pub precincts_fact : About → ℕ → Fact
-precincts_fact a byte = fact name.Precincts a (value.Size (side_of (byte % 16)) (side_of (byte / 16)))
+-- the bytes that are stated: one where the precincts of all resolutions are alike, which are 15 and 15 where none stand (A.6.1)
+unfoldable pub stated_precincts : List ℕ → List ℕ
+stated_precincts [] = 255 ∷ []
+stated_precincts (byte ∷ bytes) = if list_all (λ other. other == byte) bytes then byte ∷ [] else byte ∷ bytes
 
--- the precincts of the resolutions from one on
-abbrev pub resolution_facts : About → ℕ → List ℕ → List Fact
-resolution_facts a r [] = []
-resolution_facts a r (byte ∷ bytes) = precincts_fact (numbered a r) byte ∷ resolution_facts a (r + 1) bytes
-
--- 15 and 15 at all resolutions where none are told (A.6.1)
-unfoldable pub precinct_facts : About → List ℕ → List Fact
-precinct_facts a bytes = if length bytes == 0 then precincts_fact a 255 ∷ [] else resolution_facts a 0 bytes
-
-abbrev pub shape_facts : About → Shape → List Fact
+abbrev pub shape_facts : About → Shape → List Statement
 shape_facts a shape =
     (fact name.Levels a (value.Count shape.levels)
     ∷ fact name.Wavelet a (value.Word (wavelet_word shape.wavelet))
     ∷ fact name.BlockSize a (value.Size (side_of shape.xcb) (side_of shape.ycb))
     ∷ fact name.BlockStyle a (value.Style (record { bits = shape.style }))
     ∷ [])
-    ++ precinct_facts a shape.precincts
+    ++ Precincts a (stated_precincts shape.precincts) ∷ []
 
-abbrev pub cod_facts : About → Cod → List Fact
-cod_facts a cod =
-    fact name.Order a (value.Word (word.Order cod.order))
-    ∷ fact name.Layers a (value.Count cod.layers)
+-- the order is stated where no POC takes its place (A.6.6)
+abbrev pub cod_facts : About → Bool → Cod → List Statement
+cod_facts a ordered cod =
+    kept ordered (fact name.Order a (value.Word (word.Order cod.order)))
+    ++ (fact name.Layers a (value.Count cod.layers)
     ∷ fact name.Transform a (value.Holds (cod.transform == 1))
     ∷ fact name.Sop a (value.Holds cod.sop)
     ∷ fact name.Eph a (value.Holds cod.eph)
-    ∷ []
+    ∷ [])
 
-abbrev pub quant_facts : About → Quant → List Fact
+abbrev pub quant_facts : About → Quant → List Statement
 quant_facts a quant =
     fact name.Quantization a (value.Word (quantization_word (quant.sqcd % 32)))
     ∷ fact name.Guard a (value.Count (quant.sqcd / 32))
     ∷ []
 
 -- entries of POC from a number on (A.6.6)
-abbrev pub entry_facts : About → ℕ → List Progression → List Fact
+abbrev pub entry_facts : About → ℕ → List Progression → List Statement
 entry_facts a n [] = []
 entry_facts a n (e ∷ entries) = fact name.Progression (numbered a n) (value.Entry e) ∷ entry_facts a (n + 1) entries
 
 -- what a segment says of a tile, or of all
-unfoldable pub segment_facts : Option ℕ → Segment → List Fact
-segment_facts t (segment.Cod cod) = cod_facts (of_tile t) cod ++ shape_facts (of_tile t) cod.shape
-segment_facts t (segment.Qcd quant) = quant_facts (of_tile t) quant
-segment_facts t (segment.Coc c shape) = shape_facts (of_comp t c) shape
-segment_facts t (segment.Qcc c quant) = quant_facts (of_comp t c) quant
-segment_facts t (segment.Rgn c shift) = fact name.Region (of_comp t c) (value.Count shift) ∷ []
-segment_facts t _ = []
+unfoldable pub segment_facts : Option ℕ → Bool → Segment → List Statement
+segment_facts t ordered (segment.Cod cod) = cod_facts (of_tile t) ordered cod ++ shape_facts (of_tile t) cod.shape
+segment_facts t ordered (segment.Qcd quant) = quant_facts (of_tile t) quant
+segment_facts t ordered (segment.Coc c shape) = shape_facts (of_comp t c) shape
+segment_facts t ordered (segment.Qcc c quant) = quant_facts (of_comp t c) quant
+segment_facts t ordered (segment.Rgn c shift) = fact name.Region (of_comp t c) (value.Count shift) ∷ []
+segment_facts t ordered _ = []
 
 -- in which order the segments of a header are told
 unfoldable pub topic_of : Segment → ℕ
@@ -164,14 +163,14 @@ topic_of (segment.Qcc c quant) = 3
 topic_of (segment.Rgn c shift) = 4
 topic_of _ = 5
 
-abbrev pub facts_on : Option ℕ → ℕ → Segment → List Fact
-facts_on t topic s = if topic_of s == topic then segment_facts t s else []
+abbrev pub facts_on : Option ℕ → Bool → ℕ → Segment → List Statement
+facts_on t ordered topic s = if topic_of s == topic then segment_facts t ordered s else []
 
-unfoldable pub topic_facts : Option ℕ → List Segment → ℕ → List Fact
-topic_facts t segments topic = flat_map (facts_on t topic) segments
+unfoldable pub topic_facts : Option ℕ → Bool → List Segment → ℕ → List Statement
+topic_facts t ordered segments topic = flat_map (facts_on t ordered topic) segments
 
-abbrev pub header_facts : Option ℕ → List Segment → List Fact
-header_facts t segments = joined (topic_facts t segments) 0 5
+abbrev pub header_facts : Option ℕ → Bool → List Segment → List Statement
+header_facts t ordered segments = joined (topic_facts t ordered segments) 0 5
 
 -- ---- totals
 abbrev pub is_marked : Mark → Segment → Bool
@@ -202,13 +201,13 @@ block_bytes b = bytes_in b.pieces
 abbrev pub bytes_in_comp : ℕ → Block → ℕ
 bytes_in_comp c b = if b.name.comp == c then block_bytes b else 0
 
-abbrev pub count_fact : Name → ℕ → Fact
+abbrev pub count_fact : Name → ℕ → Statement
 count_fact n count = fact n (of_tile None) (value.Count count)
 
-abbrev pub stands_fact : Name → ℕ → Fact
+abbrev pub stands_fact : Name → ℕ → Statement
 stands_fact n count = fact n (of_tile None) (value.Holds (nat_lt 0 count))
 
-abbrev pub total_facts : Stream → List Block → List Fact
+abbrev pub total_facts : Stream → List Block → List Statement
 total_facts s blocks =
     count_fact name.Packets (packet_total s)
     ∷ count_fact name.Blocks (length blocks)
@@ -220,16 +219,23 @@ total_facts s blocks =
     ∷ count_fact name.Bytes (sum_by block_bytes blocks)
     ∷ []
 
-abbrev pub byte_facts : List Block → ℕ → List Fact
+abbrev pub byte_facts : List Block → ℕ → List Statement
 byte_facts blocks c = fact name.Bytes (of_comp None c) (value.Count (sum_by (bytes_in_comp c) blocks)) ∷ []
 
 -- ---- what a tile says itself, its tile-parts where they aren't as many as the first tile's, and its own POC
-unfoldable pub tile_facts : Stream → ℕ → List Fact
+-- POC of the main header takes the place of every COD's order, POC of a tile's own that of the tile's COD (A.6.6)
+abbrev pub has_order : Stream → Bool
+has_order s = length (entries_joined s.main) == 0
+
+abbrev pub has_own_order : Stream → ℕ → Bool
+has_own_order s t = has_order s && length (own_entries s.main (tile_at s t)) == 0
+
+unfoldable pub tile_facts : Stream → ℕ → List Statement
 tile_facts s t =
     kept (not (parts_of_tile s t == parts_of_tile s 0)) (fact name.TileParts (of_tile (Some t)) (value.Count (parts_of_tile s t)))
-    ++ (header_facts (Some t) (header_of s t) ++ entry_facts (of_tile (Some t)) 0 (own_entries s.main (tile_at s t)))
+    ++ (header_facts (Some t) (has_own_order s t) (header_of s t) ++ entry_facts (of_tile (Some t)) 0 (own_entries s.main (tile_at s t)))
 
-unfoldable pub facts_of : Stream → List Block → List Fact
+unfoldable pub facts_of : Stream → List Block → List Statement
 facts_of s blocks =
-    picture_facts s.siz ++ (size_facts s.siz ++ (header_facts None s.main ++ (entry_facts (of_tile None) 0 (entries_joined s.main)
+    picture_facts s.siz ++ (size_facts s.siz ++ (header_facts None (has_order s) s.main ++ (entry_facts (of_tile None) 0 (entries_joined s.main)
     ++ (total_facts s blocks ++ (joined (byte_facts blocks) 0 (length s.siz.comps) ++ joined (tile_facts s) 0 (tile_number s.siz))))))

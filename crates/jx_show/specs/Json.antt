@@ -1,13 +1,15 @@
 -- Facts as members of a JSON object (RFC 8259): a member's name is the text that stands before the colon of the fact's line. No name and no
 -- text in a value has a quotation mark, a backslash or a control character, so that each stands for itself.
-use Rattle.std.specs.Prelude.{ℕ, ◌==◌, Bool, List, ◌++◌, codes, if◌then◌else◌}
+use Rattle.std.specs.Prelude.{ℕ, ◌==◌, ◌/◌, ◌%◌, [], ◌∷◌, Bool, List, ◌++◌, codes, if◌then◌else◌}
 use Rattle.std.specs.List.{flat_map}
 use Rattle.std.specs.Fmt.{decimal}
 use Rattle.jx_base.specs.Passes.{bypasses, resets, terminates, is_causal, has_symbols}
 use Rattle.jx_marker.specs.declared.Progression.{Progression}
+use Rattle.jx_show.specs.declared.fact.About.{About}
 use Rattle.jx_show.specs.declared.fact.Fact.{Fact}
 use Rattle.jx_show.specs.declared.fact.Value.{Value}
 use Rattle.jx_show.specs.declared.fact.Value.TheVariants as value
+use Rattle.jx_show.specs.Facts.{side_of}
 use Rattle.jx_show.specs.Text.{about_text, is_predictable, name_text, order_called, word_text}
 
 unfoldable pub pair_json : ℕ → ℕ → List ℕ
@@ -55,5 +57,17 @@ value_json (value.Entry e) = entry_json e
 unfoldable pub fact_json : Fact → List ℕ
 fact_json f = codes ",\n  \"" ++ (name_text f.name ++ (about_text f.about ++ (codes "\": " ++ value_json f.value)))
 
-abbrev pub json_of : List Fact → List ℕ
-json_of facts = flat_map fact_json facts
+-- columns and rows of a precinct (Table A.21)
+unfoldable pub size_json : ℕ → List ℕ
+size_json byte = pair_json (side_of (byte % 16)) (side_of (byte / 16))
+
+abbrev pub next_size_json : ℕ → List ℕ
+next_size_json byte = codes ", " ++ size_json byte
+
+unfoldable pub sizes_json : List ℕ → List ℕ
+sizes_json [] = []
+sizes_json (byte ∷ bytes) = size_json byte ++ flat_map next_size_json bytes
+
+-- the member of precincts: a list of one size of all resolutions, or of that of each from resolution 0 on
+unfoldable pub precincts_json : About → List ℕ → List ℕ
+precincts_json a bytes = codes ",\n  \"precincts" ++ (about_text a ++ (codes "\": [" ++ (sizes_json bytes ++ codes "]")))

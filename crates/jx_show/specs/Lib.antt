@@ -4,3 +4,4 @@ pub mod File
 pub mod Text
 pub mod Orders
 pub mod Json
+pub mod Stated

@@ -1,5 +1,5 @@
--- The text of facts: a line for each, of its name, of what it is told, a colon and its value.
-use Rattle.std.specs.Prelude.{ℕ, ◌/◌, ◌%◌, ◌==◌, Bool, List, [], ◌++◌, Option, None, Some, codes, if◌then◌else◌, unwrap_or}
+-- The line of a fact: its name, of what it is told, a colon and its value.
+use Rattle.std.specs.Prelude.{ℕ, ◌/◌, ◌%◌, ◌==◌, Bool, List, [], ◌∷◌, ◌++◌, Option, None, Some, codes, if◌then◌else◌, unwrap_or}
 use Rattle.std.specs.List.{flat_map}
 use Rattle.std.specs.Fmt.{decimal}
 use Rattle.jx_base.specs.Passes.{bypasses, resets, terminates, is_causal, has_symbols}
@@ -13,6 +13,7 @@ use Rattle.jx_show.specs.declared.fact.Value.{Value}
 use Rattle.jx_show.specs.declared.fact.Value.TheVariants as value
 use Rattle.jx_show.specs.declared.fact.Word.{Word}
 use Rattle.jx_show.specs.declared.fact.Word.TheVariants as word
+use Rattle.jx_show.specs.Facts.{side_of}
 
 unfoldable pub name_text : Name → List ℕ
 name_text name.Profile = codes "profile"
@@ -109,5 +110,17 @@ value_text (value.Entry e) = entry_text e
 unfoldable pub fact_text : Fact → List ℕ
 fact_text f = name_text f.name ++ (about_text f.about ++ (codes ":" ++ (value_text f.value ++ codes "\n")))
 
-abbrev pub text_of : List Fact → List ℕ
-text_of facts = flat_map fact_text facts
+-- columns and rows of a precinct (Table A.21)
+unfoldable pub size_text : ℕ → List ℕ
+size_text byte = decimal (side_of (byte % 16)) ++ (codes " x " ++ decimal (side_of (byte / 16)))
+
+abbrev pub next_size : ℕ → List ℕ
+next_size byte = codes ", " ++ size_text byte
+
+unfoldable pub sizes_text : List ℕ → List ℕ
+sizes_text [] = []
+sizes_text (byte ∷ bytes) = size_text byte ++ flat_map next_size bytes
+
+-- the line of precincts: one size of all resolutions, or that of each from resolution 0 on
+unfoldable pub precincts_text : About → List ℕ → List ℕ
+precincts_text a bytes = codes "precincts" ++ (about_text a ++ (codes ": " ++ (sizes_text bytes ++ codes "\n")))

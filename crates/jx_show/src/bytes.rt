@@ -1,15 +1,17 @@
 //! How many bytes the code-blocks have (ITU-T T.800, B.10.7).
 
-ghost use Rattle.std.specs.Prelude.{◌≡◌, ◌≤◌, ◌<◌, ◌^◌, ◌+◌, ◌++◌, ◌&&◌, nat_lt, IfOk, OnOk, ℕ, length, map, sum_by, if◌then◌else◌, slice_index, slice_set};
+ghost use Rattle.std.specs.Prelude.{◌≡◌, ◌≤◌, ◌<◌, ◌^◌, ◌+◌, ◌++◌, ◌&&◌, nat_lt, IfOk, OnOk, ℕ, length, map, sum_by, if◌then◌else◌, slice_index, slice_set, string_bytes};
 ghost use Rattle.std.specs.List.{All};
 ghost use Rattle.jx_base.specs.Joined.{joined};
 ghost use Rattle.jx_base.specs.Pieces.{bytes_in, value_of};
 ghost use Rattle.jx_base.specs.Sound.{IsSound};
 ghost use Rattle.jx_show.specs.Facts.{block_bytes, byte_facts, bytes_in_comp};
 ghost use Rattle.jx_base.specs.Limits.{most_bytes};
+ghost use Rattle.jx_show.specs.Stated.{text_of};
 
+use crate::fact::{Name, Value};
 use crate::picture::{fact, of_comp};
-use crate::{Fact, Name, Value};
+use crate::stated::push_one;
 use jx_base::{Block, NoMemory, Piece};
 use std::alloc::Global;
 
@@ -71,17 +73,18 @@ fn sums_of(alloc: Global, comps: u16, blocks: &[Block<'_>]) -> Result<Vec<u128>,
 /// Appends the bytes of each component's blocks.
 pub(crate) fn push_bytes(
     alloc: Global,
-    facts: &mut Vec<Fact>,
+    text: &mut String,
+    json: bool,
     comps: u16,
     blocks: &[Block<'_>],
 ) -> Result<(), NoMemory>
     requires { All IsSound blocks.now }
-    ensures { OnOk result (facts.new.items ≡ facts.old.items ++ joined (byte_facts blocks.now) 0 comps) }
+    ensures { OnOk result (string_bytes text.new ≡ string_bytes text.old ++ text_of json (joined (byte_facts blocks.now) 0 comps)) }
 {
     let sums = sums_of(alloc, comps, blocks)?;
     for comp in 0..comps {
         let count = Value::Count(sums[usize::from(comp)]);
-        facts.push(fact(Name::Bytes, of_comp(None, comp), count))?;
+        push_one(text, json, fact(Name::Bytes, of_comp(None, comp), count))?;
     }
     Ok(())
 }

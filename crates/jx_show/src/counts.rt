@@ -1,17 +1,19 @@
 //! How many packets, code-blocks, tile-parts and segments there are.
 
-ghost use Rattle.std.specs.Prelude.{◌≡◌, ◌<◌, ◌^◌, ◌++◌, OnOk};
+ghost use Rattle.std.specs.Prelude.{◌≡◌, ◌<◌, ◌^◌, ◌++◌, OnOk, string_bytes};
 ghost use Rattle.std.specs.List.{All};
 ghost use Rattle.jx_base.specs.Joined.{sum_below};
 ghost use Rattle.jx_base.specs.Sound.{IsSound};
 ghost use Rattle.jx_codestream.specs.First.{tile_number};
 ghost use Rattle.jx_codestream.specs.InRange.{StreamInRange};
-ghost use Rattle.jx_show.specs.Facts.{comments_of_tile, count_fact, is_marked, lengths_of_tile, marked_in, stands_fact, total_facts};
+ghost use Rattle.jx_show.specs.Facts.{comments_of_tile, count_fact, is_marked, lengths_of_tile, marked_in, stands_fact, total_facts, One};
+ghost use Rattle.jx_show.specs.Stated.{text_of};
 
 use crate::bytes::all_bytes;
+use crate::fact::{Fact, Name, Value};
 use crate::headers::parts_of_tile;
 use crate::picture::{fact, of_tile};
-use crate::{Fact, Name, Value};
+use crate::stated::push_all;
 use jx_base::{Block, NoMemory};
 use jx_codestream::Stream;
 use jx_marker::Segment;
@@ -97,13 +99,13 @@ fn all_comments(stream: &Stream) -> u128
 }
 
 fn count_fact(name: Name, count: u128) -> Fact
-    ensures { result ≡ count_fact name count }
+    ensures { One result ≡ count_fact name count }
 {
     fact(name, of_tile(None), Value::Count(count))
 }
 
 fn stands_fact(name: Name, count: u128) -> Fact
-    ensures { result ≡ stands_fact name count }
+    ensures { One result ≡ stands_fact name count }
 {
     fact(name, of_tile(None), Value::Holds(count > 0))
 }
@@ -111,13 +113,14 @@ fn stands_fact(name: Name, count: u128) -> Fact
 /// Appends what is counted of the codestream.
 pub(crate) fn push_totals(
     alloc: Global,
-    facts: &mut Vec<Fact>,
+    text: &mut String,
+    json: bool,
     stream: &Stream,
     blocks: &[Block<'_>],
 ) -> Result<(), NoMemory>
     requires range { StreamInRange stream.now }
     requires sound { All IsSound blocks.now }
-    ensures { OnOk result (facts.new.items ≡ facts.old.items ++ total_facts stream.now blocks.now) }
+    ensures { OnOk result (string_bytes text.new ≡ string_bytes text.old ++ text_of json (total_facts stream.now blocks.now)) }
 {
     let main = stream.main_view(alloc)?;
     let packets = count_all(alloc, stream, &main)?.1;
@@ -126,15 +129,18 @@ pub(crate) fn push_totals(
     let notes = u128::from(marked_in(Mark::Com, segments));
     let plm = u128::from(marked_in(Mark::Plm, segments));
     let tlm = u128::from(marked_in(Mark::Tlm, segments));
-    facts.extend_from_slice(&[
-        count_fact(Name::Packets, packets),
-        count_fact(Name::Blocks, blocks.len() as u128),
-        count_fact(Name::TileParts, parts_of_tile(stream, 0) as u128),
-        stands_fact(Name::Plt, all_lengths(stream)),
-        stands_fact(Name::Plm, plm),
-        stands_fact(Name::Tlm, tlm),
-        count_fact(Name::Comments, notes + all_comments(stream)),
-        count_fact(Name::Bytes, all_bytes(blocks)),
-    ])?;
-    Ok(())
+    push_all(
+        text,
+        json,
+        &[
+            count_fact(Name::Packets, packets),
+            count_fact(Name::Blocks, blocks.len() as u128),
+            count_fact(Name::TileParts, parts_of_tile(stream, 0) as u128),
+            stands_fact(Name::Plt, all_lengths(stream)),
+            stands_fact(Name::Plm, plm),
+            stands_fact(Name::Tlm, tlm),
+            count_fact(Name::Comments, notes + all_comments(stream)),
+            count_fact(Name::Bytes, all_bytes(blocks)),
+        ],
+    )
 }

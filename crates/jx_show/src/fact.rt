@@ -4,7 +4,7 @@ use jx_base::Style;
 use jx_marker::Progression;
 
 /// What a fact tells.
-#[derive(Clone, Copy, Debug, PartialEq, Eq)]
+#[derive(Clone, Copy)]
 pub enum Name {
     /// Rsiz, the capabilities that a decoder needs (T.800, A.5.1, Table A.10).
     Profile,
@@ -73,7 +73,7 @@ pub enum Name {
 }
 
 /// A word that is a value.
-#[derive(Clone, Copy, Debug, PartialEq, Eq)]
+#[derive(Clone, Copy)]
 pub enum Word {
     /// Samples without a sign.
     Unsigned,
@@ -94,7 +94,7 @@ pub enum Word {
 }
 
 /// What is told.
-#[derive(Clone, Copy, Debug, PartialEq, Eq)]
+#[derive(Clone, Copy)]
 pub enum Value {
     /// A number.
     Count(u128),
@@ -113,7 +113,7 @@ pub enum Value {
 }
 
 /// Of what it is told: of all of the codestream where nothing is named.
-#[derive(Clone, Copy, Debug, PartialEq, Eq)]
+#[derive(Clone, Copy)]
 pub struct About {
     /// The number of a resolution, or of an entry.
     pub number: Option<usize>,
@@ -124,7 +124,7 @@ pub struct About {
 }
 
 /// One fact.
-#[derive(Clone, Copy, Debug, PartialEq, Eq)]
+#[derive(Clone, Copy)]
 pub struct Fact {
     /// What it tells.
     pub name: Name,

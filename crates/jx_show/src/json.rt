@@ -1,17 +1,17 @@
 //! Facts as members of a JSON object (RFC 8259).
 
 ghost use Rattle.std.specs.Prelude.{◌≡◌, ◌++◌, OnOk, string_bytes};
-ghost use Rattle.jx_show.specs.Json.{comps_json, entry_json, fact_json, flag_json, holds_json, json_of, layers_json, order_json, pair_json, style_json, value_json, word_json};
+ghost use Rattle.jx_show.specs.Json.{comps_json, entry_json, fact_json, flag_json, holds_json, layers_json, order_json, pair_json, style_json, value_json, word_json};
 
+use crate::fact::{Fact, Value};
 use crate::lines::push_about;
 use crate::words::{name_text, order_called, word_text};
-use crate::{Fact, Value};
 use jx_base::Style;
 use jx_marker::Progression;
 use std::alloc::AllocError;
 
 #[tactic(auto, unfolding(crate::specs::Json::pair_json))]
-fn push_pair(text: &mut String, first: u32, second: u32) -> Result<(), AllocError>
+pub(crate) fn push_pair(text: &mut String, first: u32, second: u32) -> Result<(), AllocError>
     ensures { OnOk result (string_bytes text.new ≡ string_bytes text.old ++ pair_json first second) }
 {
     write!(text, "[{first}, {second}]")
@@ -107,7 +107,7 @@ fn push_value(text: &mut String, value: Value) -> Result<(), AllocError>
 
 /// Appends a fact's member, behind a comma.
 #[tactic(auto, unfolding(crate::specs::Json::fact_json))]
-fn push_fact(text: &mut String, fact: &Fact) -> Result<(), AllocError>
+pub(crate) fn push_fact(text: &mut String, fact: &Fact) -> Result<(), AllocError>
     ensures { OnOk result (string_bytes text.new ≡ string_bytes text.old ++ fact_json fact.now) }
 {
     text.push_str(",\n  \"")?;
@@ -115,14 +115,4 @@ fn push_fact(text: &mut String, fact: &Fact) -> Result<(), AllocError>
     push_about(text, fact.about)?;
     text.push_str("\": ")?;
     push_value(text, fact.value)
-}
-
-/// Appends the members of facts, each behind a comma.
-pub(crate) fn push_json(text: &mut String, facts: &[Fact]) -> Result<(), AllocError>
-    ensures { OnOk result (string_bytes text.new ≡ string_bytes text.old ++ json_of facts.now) }
-{
-    for fact in facts {
-        push_fact(text, fact)?;
-    }
-    Ok(())
 }

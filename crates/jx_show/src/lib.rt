@@ -1,4 +1,4 @@
-//! What a keeper of pictures must know of a codestream: facts, each with a name and a value, and their text (ITU-T T.800, Annexes A and B).
+//! What a keeper of pictures must know of a codestream: facts, each with a name and a value, as text (ITU-T T.800, Annexes A and B).
 #![tactic(auto)]
 
 mod bytes;
@@ -10,9 +10,9 @@ mod lines;
 mod orders;
 mod picture;
 mod segments;
+mod sizes;
+mod stated;
 mod whole;
 mod words;
 
-pub use fact::{About, Fact, Name, Value, Word};
-pub use lines::text_of;
-pub use whole::{facts_of, show, show_file};
+pub use whole::show_file;

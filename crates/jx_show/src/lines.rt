@@ -1,13 +1,13 @@
 //! Facts as text, a line for each.
 
-ghost use Rattle.std.specs.Prelude.{◌≡◌, ◌++◌, OnOk, IfOk, string_bytes};
-ghost use Rattle.jx_show.specs.Text.{about_text, comps_text, entry_text, fact_text, order_text, part_text, style_text, text_of, told, value_text};
+ghost use Rattle.std.specs.Prelude.{◌≡◌, ◌++◌, OnOk, string_bytes};
+ghost use Rattle.jx_show.specs.Text.{about_text, comps_text, entry_text, fact_text, order_text, part_text, style_text, told, value_text};
 
+use crate::fact::{About, Fact, Value};
 use crate::words::{name_text, order_called, word_text};
-use crate::{About, Fact, Value};
-use jx_base::{NoMemory, Style};
+use jx_base::Style;
 use jx_marker::Progression;
-use std::alloc::{AllocError, Global};
+use std::alloc::AllocError;
 
 /// Appends words and a number where one is named.
 fn push_part(text: &mut String, words: &str, part: Option<usize>) -> Result<(), AllocError>
@@ -111,7 +111,7 @@ fn push_value(text: &mut String, value: Value) -> Result<(), AllocError>
 
 /// Appends a fact's line.
 #[tactic(auto, unfolding(crate::specs::Text::fact_text))]
-fn push_fact(text: &mut String, fact: &Fact) -> Result<(), AllocError>
+pub(crate) fn push_fact(text: &mut String, fact: &Fact) -> Result<(), AllocError>
     ensures { OnOk result (string_bytes text.new ≡ string_bytes text.old ++ fact_text fact.now) }
 {
     text.push_str(name_text(fact.name))?;
@@ -119,27 +119,4 @@ fn push_fact(text: &mut String, fact: &Fact) -> Result<(), AllocError>
     text.push_str(":")?;
     push_value(text, fact.value)?;
     text.push_str("\n")
-}
-
-/// Appends the lines of facts.
-pub(crate) fn push_lines(text: &mut String, facts: &[Fact]) -> Result<(), AllocError>
-    ensures { OnOk result (string_bytes text.new ≡ string_bytes text.old ++ text_of facts.now) }
-{
-    for fact in facts {
-        push_fact(text, fact)?;
-    }
-    Ok(())
-}
-
-/// The text of facts: a line for each, of its name, of what it is told, a colon and its value.
-///
-/// # Errors
-///
-/// `NoMemory` where memory is refused.
-pub fn text_of(alloc: Global, facts: &[Fact]) -> Result<String, NoMemory>
-    ensures { IfOk result (λ text. string_bytes text ≡ text_of facts.now) }
-{
-    let mut text = String::new(alloc);
-    push_lines(&mut text, facts)?;
-    Ok(text)
 }

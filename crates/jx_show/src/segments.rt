@@ -1,20 +1,16 @@
 //! What a marker segment says of a tile, or of all tiles (ITU-T T.800, A.6).
 
-ghost use Rattle.std.specs.Prelude.{◌≡◌, ◌++◌, OnOk, length};
-ghost use Rattle.jx_show.specs.Facts.{cod_facts, entry_facts, precinct_facts, precincts_fact, quant_facts, resolution_facts, segment_facts, shape_facts, side_of, topic_of};
+ghost use Rattle.std.specs.Prelude.{◌≡◌, ◌++◌, OnOk, Some, string_bytes};
+ghost use Rattle.jx_show.specs.Facts.{cod_facts, entry_facts, quant_facts, segment_facts, shape_facts, topic_of};
+ghost use Rattle.jx_show.specs.Stated.{text_of};
 
+use crate::fact::{About, Name, Value, Word};
 use crate::picture::{fact, of_comp, of_tile};
+use crate::sizes::{side_of, stated_precincts};
+use crate::stated::{push_all, push_kept, push_one, push_precincts};
 use crate::words::{quantization_word, wavelet_word};
-use crate::{About, Fact, Name, Value, Word};
 use jx_base::{NoMemory, Style};
 use jx_marker::{Cod, Progression, Quant, Segment, Shape};
-
-/// A side by its exponent, which is at most 15.
-fn side_of(exponent: u8) -> u32
-    ensures { result ≡ side_of exponent }
-{
-    1 << exponent.min(15)
-}
 
 fn numbered(about: About, number: usize) -> About
     ensures { result ≡ record about { number = Some number } }
@@ -25,95 +21,89 @@ fn numbered(about: About, number: usize) -> About
     }
 }
 
-fn precincts_fact(about: About, byte: u8) -> Fact
-    ensures { result ≡ precincts_fact about byte }
-{
-    let size = Value::Size(side_of(byte % 16), side_of(byte / 16));
-    fact(Name::Precincts, about, size)
-}
-
-/// Appends the precincts of all resolutions.
-fn push_resolutions(facts: &mut Vec<Fact>, about: About, precincts: &[u8]) -> Result<(), NoMemory>
-    ensures { OnOk result (facts.new.items ≡ facts.old.items ++ resolution_facts about 0 precincts.now) }
-{
-    for (number, byte) in precincts.iter().enumerate() {
-        facts.push(precincts_fact(numbered(about, number), *byte))?;
-    }
-    Ok(())
-}
-
-/// Appends the precincts: 15 and 15 at all resolutions where none are told.
-#[tactic(auto, unfolding(crate::specs::Facts::precinct_facts))]
-fn push_precincts(facts: &mut Vec<Fact>, about: About, precincts: &[u8]) -> Result<(), NoMemory>
-    ensures { OnOk result (facts.new.items ≡ facts.old.items ++ precinct_facts about precincts.now) }
-{
-    if precincts.is_empty() {
-        facts.push(precincts_fact(about, 255))?;
-        return Ok(());
-    }
-    push_resolutions(facts, about, precincts)
-}
-
 /// Appends levels, wavelet, code-blocks and precincts.
-fn push_shape(facts: &mut Vec<Fact>, about: About, shape: &Shape) -> Result<(), NoMemory>
-    ensures { OnOk result (facts.new.items ≡ facts.old.items ++ shape_facts about shape.now) }
+fn push_shape(text: &mut String, json: bool, about: About, shape: &Shape) -> Result<(), NoMemory>
+    ensures { OnOk result (string_bytes text.new ≡ string_bytes text.old ++ text_of json (shape_facts about shape.now)) }
 {
     let size = Value::Size(side_of(shape.xcb), side_of(shape.ycb));
     let style = Style { bits: shape.style };
-    facts.extend_from_slice(&[
-        fact(Name::Levels, about, Value::Count(u128::from(shape.levels))),
-        fact(
-            Name::Wavelet,
-            about,
-            Value::Word(wavelet_word(shape.wavelet)),
-        ),
-        fact(Name::BlockSize, about, size),
-        fact(Name::BlockStyle, about, Value::Style(style)),
-    ])?;
-    push_precincts(facts, about, shape.precincts.as_slice())
+    push_all(
+        text,
+        json,
+        &[
+            fact(Name::Levels, about, Value::Count(u128::from(shape.levels))),
+            fact(
+                Name::Wavelet,
+                about,
+                Value::Word(wavelet_word(shape.wavelet)),
+            ),
+            fact(Name::BlockSize, about, size),
+            fact(Name::BlockStyle, about, Value::Style(style)),
+        ],
+    )?;
+    let precincts = stated_precincts(shape.precincts.as_slice());
+    push_precincts(text, json, about, precincts)
 }
 
-/// Appends order, layers, component transform, SOP and EPH.
-fn push_cod(facts: &mut Vec<Fact>, about: About, cod: &Cod) -> Result<(), NoMemory>
-    ensures { OnOk result (facts.new.items ≡ facts.old.items ++ cod_facts about cod.now) }
+/// Appends order where it is `ordered`, layers, component transform, SOP and EPH.
+fn push_cod(
+    text: &mut String,
+    json: bool,
+    about: About,
+    ordered: bool,
+    cod: &Cod,
+) -> Result<(), NoMemory>
+    ensures { OnOk result (string_bytes text.new ≡ string_bytes text.old ++ text_of json (cod_facts about ordered cod.now)) }
 {
-    facts.extend_from_slice(&[
-        fact(Name::Order, about, Value::Word(Word::Order(cod.order))),
-        fact(Name::Layers, about, Value::Count(u128::from(cod.layers))),
-        fact(Name::Transform, about, Value::Holds(cod.transform == 1)),
-        fact(Name::Sop, about, Value::Holds(cod.sop)),
-        fact(Name::Eph, about, Value::Holds(cod.eph)),
-    ])?;
-    Ok(())
+    let order = fact(Name::Order, about, Value::Word(Word::Order(cod.order)));
+    push_kept(text, json, ordered, order)?;
+    push_all(
+        text,
+        json,
+        &[
+            fact(Name::Layers, about, Value::Count(u128::from(cod.layers))),
+            fact(Name::Transform, about, Value::Holds(cod.transform == 1)),
+            fact(Name::Sop, about, Value::Holds(cod.sop)),
+            fact(Name::Eph, about, Value::Holds(cod.eph)),
+        ],
+    )
 }
 
 /// Appends the style of quantization and the guard bits.
-fn push_quant(facts: &mut Vec<Fact>, about: About, quant: &Quant) -> Result<(), NoMemory>
-    ensures { OnOk result (facts.new.items ≡ facts.old.items ++ quant_facts about quant.now) }
+fn push_quant(text: &mut String, json: bool, about: About, quant: &Quant) -> Result<(), NoMemory>
+    ensures { OnOk result (string_bytes text.new ≡ string_bytes text.old ++ text_of json (quant_facts about quant.now)) }
 {
     let word = quantization_word(quant.sqcd % 32);
-    facts.extend_from_slice(&[
-        fact(Name::Quantization, about, Value::Word(word)),
-        fact(
-            Name::Guard,
-            about,
-            Value::Count(u128::from(quant.sqcd / 32)),
-        ),
-    ])?;
-    Ok(())
+    push_all(
+        text,
+        json,
+        &[
+            fact(Name::Quantization, about, Value::Word(word)),
+            fact(
+                Name::Guard,
+                about,
+                Value::Count(u128::from(quant.sqcd / 32)),
+            ),
+        ],
+    )
 }
 
 /// Appends entries of POC.
 pub(crate) fn push_entries(
-    facts: &mut Vec<Fact>,
+    text: &mut String,
+    json: bool,
     about: About,
     entries: &[Progression],
 ) -> Result<(), NoMemory>
-    ensures { OnOk result (facts.new.items ≡ facts.old.items ++ entry_facts about 0 entries.now) }
+    ensures { OnOk result (string_bytes text.new ≡ string_bytes text.old ++ text_of json (entry_facts about 0 entries.now)) }
 {
     for (number, entry) in entries.iter().enumerate() {
         let about = numbered(about, number);
-        facts.push(fact(Name::Progression, about, Value::Entry(*entry)))?;
+        push_one(
+            text,
+            json,
+            fact(Name::Progression, about, Value::Entry(*entry)),
+        )?;
     }
     Ok(())
 }
@@ -136,25 +126,26 @@ pub(crate) fn topic_of(segment: &Segment) -> u8
 /// Appends what a segment says of a tile, or of all tiles.
 #[tactic(auto, unfolding(crate::specs::Facts::segment_facts))]
 pub(crate) fn push_segment(
-    facts: &mut Vec<Fact>,
+    text: &mut String,
+    json: bool,
     tile: Option<u16>,
+    ordered: bool,
     segment: &Segment,
 ) -> Result<(), NoMemory>
-    ensures { OnOk result (facts.new.items ≡ facts.old.items ++ segment_facts tile segment.now) }
+    ensures { OnOk result (string_bytes text.new ≡ string_bytes text.old ++ text_of json (segment_facts tile ordered segment.now)) }
 {
     match segment {
         Segment::Cod(cod) => {
-            push_cod(facts, of_tile(tile), cod)?;
-            push_shape(facts, of_tile(tile), &cod.shape)
+            push_cod(text, json, of_tile(tile), ordered, cod)?;
+            push_shape(text, json, of_tile(tile), &cod.shape)
         }
-        Segment::Qcd(quant) => push_quant(facts, of_tile(tile), quant),
-        Segment::Coc { comp, shape } => push_shape(facts, of_comp(tile, *comp), shape),
-        Segment::Qcc { comp, quant } => push_quant(facts, of_comp(tile, *comp), quant),
+        Segment::Qcd(quant) => push_quant(text, json, of_tile(tile), quant),
+        Segment::Coc { comp, shape } => push_shape(text, json, of_comp(tile, *comp), shape),
+        Segment::Qcc { comp, quant } => push_quant(text, json, of_comp(tile, *comp), quant),
         Segment::Rgn { comp, shift } => {
             let about = of_comp(tile, *comp);
             let shift = Value::Count(u128::from(*shift));
-            facts.push(fact(Name::Region, about, shift))?;
-            Ok(())
+            push_one(text, json, fact(Name::Region, about, shift))
         }
         _ => Ok(()),
     }

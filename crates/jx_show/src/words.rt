@@ -4,7 +4,7 @@ ghost use Rattle.std.specs.Prelude.{◌≡◌};
 ghost use Rattle.jx_show.specs.Facts.{quantization_word, sign_word, wavelet_word};
 ghost use Rattle.jx_show.specs.Text.{name_text, order_called, word_text};
 
-use crate::{Name, Word};
+use crate::fact::{Name, Word};
 use jx_options::order_name;
 
 /// What a fact is called.

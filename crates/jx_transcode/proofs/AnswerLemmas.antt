@@ -37,10 +37,10 @@ use Rattle.jx_transcode.specs.Aims.{Aim, rule_in}
 use Rattle.jx_transcode.specs.Filed.{IsAnswered, IsFileBegun, IsFileCut, IsFileHalted, IsFileMade, IsFileSpoiled, IsEndOf, status_of}
 use Rattle.jx_transcode.specs.Outcome.{IsCutShort, IsStopped, IsUnbegun, IsUnfinished, IsVerdict, Leaves, LeavesBegun}
 use Rattle.jx_transcode.specs.Rewritten.{CanBePlanned, HasBlocks, IsBad, IsFront, IsFrontOf, IsKept, IsLong, IsRewritten, IsSpoiled, ReadsLeft, headers_of}
-use Rattle.jx_rounds.specs.Tiles.{IsRight, IsWrongAt, Round, round_of}
+use Rattle.jx_rounds.specs.Tiles.{IsRight, IsWrongAt, Round, tile_size}
 use Rattle.jx_transcode.specs.Rewritten.{IsTooLongAt}
 use Rattle.jx_rounds.specs.Heads.{IsHead, IsIndexed}
-use Rattle.jx_rounds.specs.Rounds.{EndWithRound, IsHaltedAt, IsRoundFront, IsShortFront, IsSpoiledBy, IsSpoiledTile, IsTapedTo, IsWholeFile, most_of_part}
+use Rattle.jx_rounds.specs.Rounds.{EndWithRound, IsHaltedAt, IsRoundFront, IsShortFront, IsSpoiledBy, IsSpoiledTile, IsTapedTo, IsWholeFile, most_of_part, round_in}
 use Rattle.jx_rounds.specs.Sent.{PartSent, bytes_sent, sent_of}
 use Rattle.jx_rounds.specs.declared.halt.Halt.{Halt}
 use Rattle.jx_rounds.specs.declared.halt.Halt.TheVariants as halt
@@ -236,8 +236,8 @@ module _ (laws : Laws) (aim : Aim) (input : List ℕ) (s : Stream) (blocks : Lis
       | inl lt ↦ absurd (none_spoiled front.tiles front.sent front.front t lt spoiled)
       | inr ge ↦ elim front.ends [
         | inl begins ↦
-            let here : (round_of (blocks_in plan) front.tiles).start ≡ front.tiles = ap (λ (r : Round). r.start) begins in
-            omega (arith, here, start_grows (blocks_in plan) front.tiles t ge)
+            let here : (round_in plan front.tiles).start ≡ front.tiles = ap (λ (r : Round). r.start) begins in
+            omega (arith, here, start_grows (blocks_in plan) (tile_size s) front.tiles t ge)
         | inr past ↦ absurd (omega (arith, past, ge, inside))
       ]
     ];
@@ -280,8 +280,8 @@ module _ (laws : Laws) (aim : Aim) (input : List ℕ) (s : Stream) (blocks : Lis
   begun_short name n old new is file = inr (inr (inr (record { within = within; count = counted n is; stands = begun_stands name old new file })))
 
   -- a tile isn't written
-  start_is : (head : List ℕ) (why : Halt) (t : ℕ) (bytes : List ℕ) (is : IsHaltedAt plan head why t bytes) → (round_of (blocks_in plan) t).start ≡ is.start
-  start_is head why t bytes is = ap (λ (r : Round). r.start) is.round
+  start_is : (head : List ℕ) (why : Halt) (t : ℕ) (bytes : List ℕ) (is : IsHaltedAt plan head why t bytes) → (round_in plan t).start ≡ is.start
+  start_is head why t bytes is = is.round
 
   lowest_of : (why : Halt) (t : ℕ) → IsSpoiledTile plan why t → (n : ℕ) → n < t → IsSpoiled w can.by s blocks n → ⊥
   lowest_of why t is n lt spoiled = none_spoiled t is.below.0 is.below.1 n lt spoiled
@@ -310,7 +310,7 @@ module _ (laws : Laws) (aim : Aim) (input : List ℕ) (s : Stream) (blocks : Lis
   }
 
   start_front : (head : List ℕ) (why : Halt) (t : ℕ) (bytes : List ℕ) → IsHaltedAt plan head why t bytes → w.marks.tlm ≡ false → head ≡ main_bytes headers
-      → IsFront w can.by s blocks (round_of (blocks_in plan) t).start bytes
+      → IsFront w can.by s blocks (round_in plan t).start bytes
   start_front head why t bytes is plain main =
       subst (λ (n : ℕ). IsFront w can.by s blocks n bytes) (sym (start_is head why t bytes is)) (front_of is.start head bytes is.sent is.front plain main is.bytes_are)
 
@@ -321,11 +321,11 @@ module _ (laws : Laws) (aim : Aim) (input : List ℕ) (s : Stream) (blocks : Lis
     reads = reads;
     can = can;
     tiles = is.start;
-    inside = omega (arith, start_is head why t bytes is, start_below (blocks_in plan) t, is.of.inside);
+    inside = omega (arith, start_is head why t bytes is, start_below (blocks_in plan) (tile_size s) t, is.of.inside);
     front = front_of is.start head bytes is.sent is.front plain main is.bytes_are;
     before = λ n inside spoiled. elim (cases_lt n t) [
       | inl lt ↦ absurd (lowest_of why t is.of n lt spoiled)
-      | inr ge ↦ omega (arith, start_is head why t bytes is, start_grows (blocks_in plan) t n ge)
+      | inr ge ↦ omega (arith, start_is head why t bytes is, start_grows (blocks_in plan) (tile_size s) t n ge)
     ];
   }
 
@@ -333,7 +333,7 @@ module _ (laws : Laws) (aim : Aim) (input : List ℕ) (s : Stream) (blocks : Lis
   abbrev IsLeftAt : Text → Halt → ℕ → Meaning → Meaning → Type 0
   IsLeftAt name why t old new =
       IsSpoiledTile plan why t
-      × (((bytes : List ℕ) × IsFront w can.by s blocks (round_of (blocks_in plan) t).start bytes × IsFrontOf aim input bytes × IsStopped name bytes old new) ⊎ IsUnbegun aim old new)
+      × (((bytes : List ℕ) × IsFront w can.by s blocks (round_in plan t).start bytes × IsFrontOf aim input bytes × IsStopped name bytes old new) ⊎ IsUnbegun aim old new)
 
   -- all tiles are right and short where the index was made
   indexed_whole : (why : Halt) (t : ℕ) (head : List ℕ) → IsIndexed plan head → (is : IsSpoiledTile plan why t) → IsSpoiled w can.by s blocks t → ⊥

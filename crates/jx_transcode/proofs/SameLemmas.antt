@@ -137,6 +137,11 @@ second_unread limit name s blocks u old new (inr e) same =
 pub second_unwritten : (limit : ℕ) (name : Text) (s : Stream) (blocks : List Block) (u : Status) (old new : Meaning) → IsSecondTold limit name s blocks u old new → u ≡ status.WriteFault → ⊥
 second_unwritten limit name s blocks u old new told failed = subst (λ (t : Status). SecondVerdict s blocks limit told.second t) failed told.verdict
 
+-- and isn't told as what comes of the first
+pub second_not_first : (limit : ℕ) (name : Text) (s : Stream) (blocks : List Block) (u : Status) (old new : Meaning) → IsSecondTold limit name s blocks u old new → IsOfFirst u → ⊥
+second_not_first limit name s blocks u old new told (inl of) = subst (λ (t : Status). SecondVerdict s blocks limit told.second t) of.2 told.verdict
+second_not_first limit name s blocks u old new told (inr of) = subst (λ (t : Status). SecondVerdict s blocks limit told.second t) of.2 told.verdict
+
 -- ---- both files
 pub first_unread : (names : Pair) (u : Status) (old new : Meaning) → (u ≡ status.ReadFault) ⊎ (u ≡ status.NoMemory) → IsUntouched old new → IsToTell names u 0 old new
 first_unread names u old new (inl e) same = rw e (record {
@@ -308,3 +313,25 @@ of_first_said s late line before now fault_before fault_now (inl unread) said = 
 of_first_said s late line before now fault_before fault_now (inr of) (inl said) = inr (subst IsOfFirst (sym said.0) of)
 of_first_said s late line before now fault_before fault_now (inr of) (inr (inl fault)) = inl (inr (inl (fault.0, fault.2)))
 of_first_said s late line before now fault_before fault_now (inr of) (inr (inr short)) = inl (inr (inr short.0))
+
+-- ---- a refusal of the first that was said is one
+read_not_first : IsOfFirst status.ReadFault → ⊥
+read_not_first (inl of) = let e : status.ReadFault ≡ status.Rule of.0 of.1 = of.2 in cc
+read_not_first (inr of) = let e : status.ReadFault ≡ status.Limit of.0 of.1 = of.2 in cc
+
+memory_not_first : IsOfFirst status.NoMemory → ⊥
+memory_not_first (inl of) = let e : status.NoMemory ≡ status.Rule of.0 of.1 = of.2 in cc
+memory_not_first (inr of) = let e : status.NoMemory ≡ status.Limit of.0 of.1 = of.2 in cc
+
+fault_not_first : IsOfFirst status.WriteFault → ⊥
+fault_not_first (inl of) = let e : status.WriteFault ≡ status.Rule of.0 of.1 = of.2 in cc
+fault_not_first (inr of) = let e : status.WriteFault ≡ status.Limit of.0 of.1 = of.2 in cc
+
+pub unread_not_first : (u : Status) → (u ≡ status.ReadFault) ⊎ (u ≡ status.NoMemory) → IsOfFirst u → ⊥
+unread_not_first u (inl is) of = read_not_first (subst IsOfFirst is of)
+unread_not_first u (inr is) of = memory_not_first (subst IsOfFirst is of)
+
+pub of_first_before : (s late : Status) (line : List ℕ) (before now : Option (List ℕ)) (fault_before fault_now : ℕ) → EndsAs s line late before now fault_before fault_now → IsOfFirst late → IsOfFirst s
+of_first_before s late line before now fault_before fault_now (inl said) of = subst IsOfFirst said.0 of
+of_first_before s late line before now fault_before fault_now (inr (inl fault)) of = absurd (fault_not_first (subst IsOfFirst fault.0 of))
+of_first_before s late line before now fault_before fault_now (inr (inr short)) of = absurd (memory_not_first (subst IsOfFirst short.0 of))

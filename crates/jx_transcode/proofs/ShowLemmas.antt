@@ -4,6 +4,7 @@ use Rattle.jx_base.specs.declared.pieces.Block.{Block}
 use Rattle.jx_io.specs.Device.{Meaning, joined}
 use Rattle.jx_cli.specs.ShowWords.{Show}
 use Rattle.jx_codestream.specs.declared.Stream.{Stream}
+use Rattle.jx_jp2.specs.Names.{brand_of, brand_text}
 use Rattle.jx_show.specs.Facts.{facts_of}
 use Rattle.jx_show.specs.File.{file_text}
 use Rattle.jx_transcode.specs.Outcome.{IsUntouched, IsVerdict, line_of}
@@ -17,7 +18,7 @@ use Rattle.jx_transcode.proofs.LinesLemmas.{IsToSay}
 use Rattle.jx_transcode.proofs.SameLemmas.{IsUnfitInput, unfit_told}
 
 pub shown_of : (limit : ℕ) (json : Bool) (input text : List ℕ) (s : Stream) (blocks : List Block) → IsAccepted limit input s blocks
-    → (names : Option (List ℕ)) × HasBoxes input names × (text ≡ file_text json names (facts_of s blocks)) → IsShown limit json input text
+    → (names : Option (List ℕ)) × HasBoxes input names × (text ≡ file_text json names (brand_text (brand_of input)) (facts_of s blocks)) → IsShown limit json input text
 shown_of limit json input text s blocks accepted is = record { stream = s; blocks = blocks; accepted = accepted; names = is.0; boxes = is.1; is = is.2 }
 
 pub shown_to_say : (asked : Show) (read text : List ℕ) (old new : Meaning) → IsFront asked.limit (joined (old.holds asked.name)) read → IsUntouched old new → IsShown asked.limit asked.json read text

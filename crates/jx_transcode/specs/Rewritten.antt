@@ -26,7 +26,7 @@ use Rattle.jx_tier2_writer.specs.Kept.{IsKeptIn}
 use Rattle.jx_tier2_writer.specs.Ready.{AllShort, AreShort}
 use Rattle.jx_tier2_writer.specs.Tile.{main_bytes}
 use Rattle.jx_tier2_writer.specs.TileParts.{AreTilePartsOf, IsOutput}
-use Rattle.jx_rounds.specs.Tiles.{IsRight, IsWrongAt, blocks_in_tile, first_in_tile, round_of}
+use Rattle.jx_rounds.specs.Tiles.{IsRight, IsWrongAt, blocks_in_tile, first_in_tile, round_start}
 use Rattle.jx_transcode.specs.Aims.{Aim, rule_in}
 
 -- an input that is read whole: a well-formed codestream within the limits, with its blocks
@@ -111,10 +111,6 @@ pub record IsRewritten (aim : Aim) (input out : List ℕ) : Type 0 where
   pub right : All (λ (b : Block). is_wrong aim.wanted.style b ≡ false) blocks
   pub output : IsOutput aim.wanted.marks (headers_of aim.wanted can.by stream blocks) (blocks_written aim.wanted can.by stream blocks) out
   pub short : AllShort output.parts (tile_number stream.siz)
-
--- the first tile of a tile's round
-abbrev pub round_start : Stream → ℕ → ℕ
-round_start s t = (round_of (blocks_in_tile s) t).start
 
 -- the main header and the tile-parts of the first tiles, in which no block is wrong, where no index stands between them
 pub record IsFront (w : Wanted) (r : Rule) (s : Stream) (blocks : List Block) (tiles : ℕ) (bytes : List ℕ) : Type 0 where

@@ -4,11 +4,11 @@ use Rattle.jx_base.specs.declared.pieces.Block.{Block}
 use Rattle.jx_codestream.specs.declared.Stream.{Stream}
 use Rattle.jx_codestream.specs.First.{tile_number}
 use Rattle.jx_options.specs.Work.{Work}
-use Rattle.jx_transcode.specs.Rewritten.{HasBlocks, ReadsLeft, round_start}
+use Rattle.jx_transcode.specs.Rewritten.{HasBlocks, ReadsLeft}
 use Rattle.jx_transcode.specs.declared.status.Status.{Status}
 use Rattle.jx_transcode.specs.declared.status.Status.TheVariants as status
 use Rattle.jx_rounds.specs.Tapes.{IsTapeOf}
-use Rattle.jx_rounds.specs.Tiles.{blocks_in_tile, first_in_tile}
+use Rattle.jx_rounds.specs.Tiles.{blocks_in_tile, first_in_tile, round_start}
 use Rattle.jx_rounds.specs.declared.tape.TapeEntry.{TapeEntry}
 
 -- of what is left of an input that was read whole

@@ -15,6 +15,7 @@ use Rattle.jx_same.specs.declared.answer.Answer.TheVariants as answer
 use Rattle.jx_same.specs.declared.answer.Difference.{Difference}
 use Rattle.jx_same.specs.declared.answer.Field.TheVariants as field
 use Rattle.jx_transcode.specs.Outcome.{IsUntouched, IsVerdict, Says, line_of}
+use Rattle.jx_transcode.specs.Progress.{HasRead}
 use Rattle.jx_transcode.specs.Sources.{BreaksLimit, BreaksRule, IsAccepted, IsGoodInput}
 use Rattle.jx_transcode.specs.declared.status.Status.{Status}
 use Rattle.jx_transcode.specs.declared.status.Status.TheVariants as status
@@ -84,6 +85,10 @@ pub record EndsCompared (names : Pair) (s : Status) (blocks : ℕ) (entries : Li
 -- the first file was refused by a rule or a limit
 abbrev pub IsOfFirst : Status → Type 0
 IsOfFirst s = ((number : ℕ) × (place : ℕ) × (s ≡ status.Rule number place)) ⊎ ((number : ℕ) × (found : ℕ) × (s ≡ status.Limit number found))
+
+-- some bytes of the file were read, and what is left to be read is the rest of it: no other file was opened since
+abbrev pub IsStillRead : Option (List ℕ) → Option (List ℕ) → Type 0
+IsStillRead file left = (bytes : List ℕ) × HasRead file left bytes
 
 -- ---- inner: what is known before anything is said
 -- the status of a second file that is refused

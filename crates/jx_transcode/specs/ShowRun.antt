@@ -6,7 +6,7 @@ use Rattle.jx_io.specs.Device.{Meaning}
 use Rattle.jx_cli.specs.ShowWords.{Show}
 use Rattle.jx_codestream.specs.declared.Stream.{Stream}
 use Rattle.jx_jp2.specs.Codestream.{IsJp2}
-use Rattle.jx_jp2.specs.Names.{HasNames}
+use Rattle.jx_jp2.specs.Names.{HasNames, brand_of, brand_text}
 use Rattle.jx_show.specs.Facts.{facts_of}
 use Rattle.jx_show.specs.File.{file_text}
 use Rattle.jx_transcode.specs.LinesRun.{EndsInLines}
@@ -33,14 +33,14 @@ abbrev pub HasBoxes : List ℕ → Option (List ℕ) → Type 0
 HasBoxes input None = IsJp2 input → ⊥
 HasBoxes input (Some names) = IsJp2 input × HasNames input names
 
--- what is told of an input: the facts of its codestream, behind its boxes' names
+-- what is told of an input: the facts of its codestream, behind its brand and its boxes' names
 pub record IsShown (limit : ℕ) (json : Bool) (input text : List ℕ) : Type 0 where
   pub stream : Stream
   pub blocks : List Block
   pub accepted : IsAccepted limit input stream blocks
   pub names : Option (List ℕ)
   pub boxes : HasBoxes input names
-  pub is : text ≡ file_text json names (facts_of stream blocks)
+  pub is : text ≡ file_text json names (brand_text (brand_of input)) (facts_of stream blocks)
 
 -- how a run over good words of `show` ends
 abbrev pub EndsShown : Show → Status → ℕ → List TapeEntry → Meaning → Meaning → Option (List ℕ) → Option (List ℕ) → Type 0

@@ -94,6 +94,7 @@ fn fill<F: Files>(files: &mut F, bytes: &mut Vec<u8>, limit: u32) -> Result<usiz
     requires few { vec_len bytes.old ≤ limit + 1 }
     ensures within { IfOk result (λ n. n ≤ vec_len bytes.new) }
     ensures bytes { IfOk result (λ n. IfSome (F.meaning files.old).left (λ left. take n bytes.new.items ≡ take (limit + 1) left)) }
+    ensures left { IfOk result (λ n. HasRead (F.meaning files.old).left (F.meaning files.new).left (take n bytes.new.items)) }
     ensures same { SameButLeft (F.meaning files.old) (F.meaning files.new) }
     ensures opens { Allows (F.can_open files.old) (F.can_open files.new) }
     ensures creates { Allows (F.can_create files.old) (F.can_create files.new) }
@@ -118,6 +119,7 @@ fn fill<F: Files>(files: &mut F, bytes: &mut Vec<u8>, limit: u32) -> Result<usiz
 pub fn read_all<F: Files>(alloc: Global, files: &mut F, limit: u32) -> Result<Vec<u8>, Refused>
     requires { IsTrue (F.meaning files.old).reading }
     ensures bytes { IfOk result (λ v. IfSome (F.meaning files.old).left (λ left. v.items ≡ take (limit + 1) left)) }
+    ensures left { IfOk result (λ v. HasRead (F.meaning files.old).left (F.meaning files.new).left v.items) }
     ensures same { SameButLeft (F.meaning files.old) (F.meaning files.new) }
     ensures opens { Allows (F.can_open files.old) (F.can_open files.new) }
     ensures creates { Allows (F.can_create files.old) (F.can_create files.new) }

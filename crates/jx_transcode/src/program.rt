@@ -3,14 +3,15 @@
 ghost use Rattle.std.specs.Prelude.{◌≡◌, ◌<◌, ◌⊎◌, None, Some, true, false, map, string_bytes, IfSome};
 ghost use Rattle.jx_plan.specs.Planned.{chosen};
 ghost use Rattle.jx_io.specs.Causes.{Rose};
+ghost use Rattle.jx_io.specs.Device.{joined};
 ghost use Rattle.jx_cli.specs.BoxesWords.{boxes_of, is_boxes};
 ghost use Rattle.jx_cli.specs.SameWords.{is_same, same_of};
 ghost use Rattle.jx_cli.specs.ShowWords.{is_show, show_of};
 ghost use Rattle.jx_cli.specs.Words.{is_good, request_of};
 ghost use Rattle.jx_transcode.specs.Misfits.{TellsMisfit};
-ghost use Rattle.jx_transcode.specs.Outcome.{EndsAsReadFault, IsVerdict};
+ghost use Rattle.jx_transcode.specs.Outcome.{EndsAsReadFault, IsUntouched, IsVerdict};
 ghost use Rattle.jx_transcode.specs.Runs.{Outcome};
-ghost use Rattle.jx_transcode.specs.SameRun.{IsOfFirst};
+ghost use Rattle.jx_transcode.specs.SameRun.{IsOfFirst, IsStillRead};
 ghost use Rattle.jx_transcode.specs.TranscodeRun.{TellsPositions};
 
 use crate::commands::{Command, boxes, make, read_command, same, show, transcode};
@@ -63,9 +64,11 @@ pub fn run<R: Threads + Wait + Sync, F: Files, S: Sink, G: Gate + Sync>(
     ensures read { result.status ≡ Status.ReadFault → Rose (F.read_faults files.old) (F.read_faults files.new) }
     ensures write { result.status ≡ Status.WriteFault
         → Rose (F.write_faults files.old) (F.write_faults files.new) ⊎ Rose (S.faults say.old) (S.faults say.new) }
-    // a file that is told as not being there
+    // a file that is told as not being there; nothing is created then
     ensures absent { is_good (map string_bytes words.now) ≡ true → (F.meaning files.old).holds (request_of (map string_bytes words.now)).from ≡ Some None
         → EndsAsReadFault result.status (S.faults say.old) (S.faults say.new) }
+    ensures uncreated { is_good (map string_bytes words.now) ≡ true → (F.meaning files.old).holds (request_of (map string_bytes words.now)).from ≡ Some None
+        → IsUntouched (F.meaning files.old) (F.meaning files.new) }
     ensures unlisted { is_boxes (map string_bytes words.now) ≡ true → (F.meaning files.old).holds (boxes_of (map string_bytes words.now)).name ≡ Some None
         → EndsAsReadFault result.status (S.faults say.old) (S.faults say.new) }
     ensures unfound { is_same (map string_bytes words.now) ≡ true → (F.meaning files.old).holds (same_of (map string_bytes words.now)).first ≡ Some None
@@ -73,6 +76,9 @@ pub fn run<R: Threads + Wait + Sync, F: Files, S: Sink, G: Gate + Sync>(
     // the second is opened once the first is accepted
     ensures unfound_too { is_same (map string_bytes words.now) ≡ true → (F.meaning files.old).holds (same_of (map string_bytes words.now)).second ≡ Some None
         → EndsAsReadFault result.status (S.faults say.old) (S.faults say.new) ⊎ IsOfFirst result.status }
+    // where the first is refused, it is still the file that is read
+    ensures unopened { is_same (map string_bytes words.now) ≡ true → IsOfFirst result.status
+        → IsStillRead (joined ((F.meaning files.old).holds (same_of (map string_bytes words.now)).first)) (F.meaning files.new).left }
     ensures unshown { is_show (map string_bytes words.now) ≡ true → (F.meaning files.old).holds (show_of (map string_bytes words.now)).name ≡ Some None
         → EndsAsReadFault result.status (S.faults say.old) (S.faults say.new) }
     // a call of the files that failed

@@ -3,9 +3,10 @@
 ghost use Rattle.std.specs.Prelude.{◌≡◌, ◌<◌, ◌≤◌, ◌⊎◌, IfOk, [], None, Some, false, string_bytes};
 ghost use Rattle.jx_cli.specs.SameWords.{MayBeCompared};
 ghost use Rattle.jx_io.specs.Causes.{Rose};
+ghost use Rattle.jx_io.specs.Device.{joined};
 ghost use Rattle.jx_plan.specs.Plan.{MayBePlanned};
 ghost use Rattle.jx_transcode.specs.Outcome.{EndsAs, EndsAsReadFault};
-ghost use Rattle.jx_transcode.specs.SameRun.{EndsCompared, IsOfFirst, IsSecondTold, IsToTell, answer_status, blocks_after, same_line, second_status};
+ghost use Rattle.jx_transcode.specs.SameRun.{EndsCompared, IsOfFirst, IsSecondTold, IsStillRead, IsToTell, answer_status, blocks_after, same_line, second_status};
 
 use crate::input::{read_input, unread_as};
 use crate::judge::read_checked;
@@ -107,6 +108,7 @@ fn compare_files<R: Threads + Sync, F: Files>(
     ensures absent { (F.meaning files.old).holds names.now.first ≡ Some None → (result.status ≡ Status.ReadFault) ⊎ (result.status ≡ Status.NoMemory) }
     ensures absent_too { (F.meaning files.old).holds names.now.second ≡ Some None
         → ((result.status ≡ Status.ReadFault) ⊎ (result.status ≡ Status.NoMemory)) ⊎ IsOfFirst result.status }
+    ensures unopened { IsOfFirst result.status → IsStillRead (joined ((F.meaning files.old).holds names.now.first)) (F.meaning files.new).left }
     ensures read_rose { F.read_faults files.old < F.read_faults files.new → result.status ≡ Status.ReadFault }
     ensures other { F.write_faults files.new ≡ F.write_faults files.old }
 {
@@ -203,6 +205,7 @@ pub fn run<R: Threads + Sync, F: Files, S: Sink>(
     ensures absent { (F.meaning files.old).holds names.now.first ≡ Some None → EndsAsReadFault result.status (S.faults say.old) (S.faults say.new) }
     ensures absent_too { (F.meaning files.old).holds names.now.second ≡ Some None
         → EndsAsReadFault result.status (S.faults say.old) (S.faults say.new) ⊎ IsOfFirst result.status }
+    ensures unopened { IsOfFirst result.status → IsStillRead (joined ((F.meaning files.old).holds names.now.first)) (F.meaning files.new).left }
     ensures read_rose { F.read_faults files.old < F.read_faults files.new → EndsAsReadFault result.status (S.faults say.old) (S.faults say.new) }
     ensures other { F.write_faults files.new ≡ F.write_faults files.old }
     ensures positions { result.positions ≡ false }

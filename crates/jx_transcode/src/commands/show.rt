@@ -3,6 +3,7 @@
 ghost use Rattle.std.specs.Prelude.{◌≡◌, ◌<◌, ◌≤◌, ℕ, List, Option, IfErr, IfOk, None, Some, false, length, string_bytes};
 ghost use Rattle.jx_base.specs.Limits.{most_bytes};
 ghost use Rattle.jx_io.specs.Causes.{Rose};
+ghost use Rattle.jx_jp2.specs.Names.{brand_of, brand_text};
 ghost use Rattle.jx_plan.specs.Plan.{MayBePlanned};
 ghost use Rattle.jx_show.specs.Facts.{facts_of};
 ghost use Rattle.jx_show.specs.File.{file_text};
@@ -18,7 +19,7 @@ use jx_base::{Block, NoMemory};
 use jx_cli::Show;
 use jx_codestream::Stream;
 use jx_io::{Files, Sink};
-use jx_jp2::{is_jp2, names};
+use jx_jp2::{brand, is_jp2, names};
 use jx_show::show_file;
 use std::alloc::Global;
 
@@ -32,13 +33,24 @@ fn text_of(
 ) -> Result<String, NoMemory>
     requires within { length input.now ≤ most_bytes }
     requires may { MayBePlanned stream.now blocks.now }
-    ensures { IfOk result (λ text. (names : Option (List ℕ)) × HasBoxes input.now names × (string_bytes text ≡ file_text json names (facts_of stream.now blocks.now))) }
+    ensures { IfOk result (λ text. (names : Option (List ℕ)) × HasBoxes input.now names × (string_bytes text ≡ file_text json names (brand_text (brand_of input.now)) (facts_of stream.now blocks.now))) }
 {
+    let brand = match brand(alloc, input) {
+        Ok(brand) => brand,
+        Err(_) => return Err(NoMemory),
+    };
     if !is_jp2(input) {
-        return show_file(alloc, None, stream, blocks, json);
+        return show_file(alloc, None, brand.as_str(), stream, blocks, json);
     }
     match names(alloc, input) {
-        Ok(names) => show_file(alloc, Some(names.as_str()), stream, blocks, json),
+        Ok(names) => show_file(
+            alloc,
+            Some(names.as_str()),
+            brand.as_str(),
+            stream,
+            blocks,
+            json,
+        ),
         Err(_) => Err(NoMemory),
     }
 }

@@ -25,7 +25,7 @@ pub returns-in-Err-clause-unmade : goal.returns-in-Err-clause-unmade
 returns-in-Err-clause-unmade c =
     let own = tile_at c.args.making.now c.args.tile c.loop-at.at c.args.extent.now.blocks c.index-count.result.now c.loop-at.from c.args.extent.now.counts.items c.requires.extent.of c.loop-at.auto.at
     (omega (arith, c.loop-at-test.true, c.requires.tile)) c.index-count.ensures c.loop-at.invariant.from in
-    unmade_of c.args.making.now c.args.tile c.loop-at.at c.loop-at.from (sent_from c.args.tile c.loop-at.tiles.items) c.in-Err.halt own.inside own.round c.loop-at.invariant.lead c.in-Err.ensures.unmade
+    unmade_of c.args.making.now c.args.tile c.loop-at.at (sent_from c.args.tile c.loop-at.tiles.items) c.in-Err.halt own.inside own.round c.loop-at.invariant.lead c.in-Err.ensures.unmade
 
 pub loop-at-preserved : goal.loop-at-preserved
 loop-at-preserved c =

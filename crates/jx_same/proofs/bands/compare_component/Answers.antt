@@ -3,64 +3,40 @@ use Rattle.std.specs.List.{find}
 use Rattle.std.proofs.lemmas.Result.{IfOk-weaker}
 use Rattle.jx_base.specs.Joined.{joined}
 use Rattle.jx_geom.specs.Geometry.{shape_of}
-use Rattle.jx_codestream.specs.declared.Params.{Params}
 use Rattle.jx_codestream.specs.Params.{params_of}
 use Rattle.jx_plan.specs.Meaning.{component_of}
 use Rattle.jx_same.specs.declared.answer.Spot.{Spot}
 use Rattle.jx_same.specs.Items.{coding_fields, coding_items, component_items, differs, resolution_items, spot_of_component}
 use Rattle.jx_same.specs.Sides.{geometry_at, meaning_at, unlike_coding}
 use Rattle.jx_same.proofs.FieldLemmas.{aligned_from, coding_found}
-use Rattle.jx_same.proofs.FindLemmas.{before, behind, none_made, nothing, some_made}
+use Rattle.jx_same.proofs.FindLemmas.{before, behind, nothing}
+use Rattle.jx_same.proofs.HeaderLemmas.{map_none}
 use Rattle.jx_same.proofs.bands.compare_component.Goals as goal
 
 pub returns-in-Some : goal.returns-in-Some
 returns-in-Some g c =
     let a = c.args.a.now in
-    let b = c.args.b.now in
     let i = c.args.comp in
-    let p = differs (meaning_at a) (meaning_at b) in
-    let one = params_of a.stream a.tile i in
-    let two = params_of b.stream a.tile i in
-    let found = find (unlike_coding (component_of one) (component_of two)) coding_fields in
-    let other = c.params-2.ensures ∙ ap (λ (t : ℕ). params_of b.stream t i) (sym c.requires.beside.tile) in
-    let is : c.unlike_coding.result ≡ found = c.unlike_coding.ensures ∙ ap (λ (z : Params). find (unlike_coding (component_of z) (component_of c.params-2.result)) coding_fields) c.params.ensures
-    ∙ ap (λ (z : Params). find (unlike_coding (component_of one) (component_of z)) coding_fields) other in
-    let items = coding_items a.tile i in
-    let made = coding_found a.stream b.stream a.blocks b.blocks a.tile i in
+    let p = differs (meaning_at a) (meaning_at c.args.b.now) in
     let coefs = joined (resolution_items (geometry_at a) i) 0 ((shape_of (geometry_at a) i).levels + 1) in
-    let own = c.spot_of_component.ensures ∙ ap (λ (t : ℕ). spot_of_component t i c.in-Some.field) c.tile.ensures.value in
-    let here = some_made (spot_of_component a.tile i) found c.unlike_coding.result (find p items) c.in-Some.field c.spot_of_component.result made is c.in-Some.is own in
-    sym (before p items coefs c.spot_of_component.result here)
+    sym (before p (coding_items a.tile i) coefs c.in-Some.spot (sym c.compare_coding.ensures ∙ c.in-Some.is))
 
 pub compare_resolutions-requires-clause-aligned : goal.compare_resolutions-requires-clause-aligned
 compare_resolutions-requires-clause-aligned g c κs held =
     let a = c.args.a.now in
     let b = c.args.b.now in
     let i = c.args.comp in
-    let p = differs (meaning_at a) (meaning_at b) in
-    let one = params_of a.stream a.tile i in
-    let two = params_of b.stream a.tile i in
-    let found = find (unlike_coding (component_of one) (component_of two)) coding_fields in
-    let other = c.params-2.ensures ∙ ap (λ (t : ℕ). params_of b.stream t i) (sym c.requires.beside.tile) in
-    let is : c.unlike_coding.result ≡ found = c.unlike_coding.ensures ∙ ap (λ (z : Params). find (unlike_coding (component_of z) (component_of c.params-2.result)) coding_fields) c.params.ensures
-    ∙ ap (λ (z : Params). find (unlike_coding (component_of one) (component_of z)) coding_fields) other in
-    aligned_from a b i c.requires.beside (sym is ∙ nothing c.unlike_coding.result (λ x e. c.in_default.not-Some x e))
+    let found = find (unlike_coding (component_of (params_of a.stream a.tile i)) (component_of (params_of b.stream a.tile i))) coding_fields in
+    let none = sym c.compare_coding.ensures ∙ nothing c.compare_coding.result (λ x e. c.in_default.not-Some x e) in
+    aligned_from a b i c.requires.beside (map_none (spot_of_component a.tile i) found (sym (coding_found a.stream b.stream a.blocks b.blocks a.tile i) ∙ none))
 
 pub returns : goal.returns
 returns g c =
     let a = c.args.a.now in
-    let b = c.args.b.now in
     let i = c.args.comp in
-    let p = differs (meaning_at a) (meaning_at b) in
-    let one = params_of a.stream a.tile i in
-    let two = params_of b.stream a.tile i in
-    let found = find (unlike_coding (component_of one) (component_of two)) coding_fields in
-    let other = c.params-2.ensures ∙ ap (λ (t : ℕ). params_of b.stream t i) (sym c.requires.beside.tile) in
-    let is : c.unlike_coding.result ≡ found = c.unlike_coding.ensures ∙ ap (λ (z : Params). find (unlike_coding (component_of z) (component_of c.params-2.result)) coding_fields) c.params.ensures
-    ∙ ap (λ (z : Params). find (unlike_coding (component_of one) (component_of z)) coding_fields) other in
+    let p = differs (meaning_at a) (meaning_at c.args.b.now) in
     let items = coding_items a.tile i in
-    let made = coding_found a.stream b.stream a.blocks b.blocks a.tile i in
     let coefs = joined (resolution_items (geometry_at a) i) 0 ((shape_of (geometry_at a) i).levels + 1) in
-    let none = none_made (spot_of_component a.tile i) found c.unlike_coding.result (find p items) made is (nothing c.unlike_coding.result (λ x e. c.in_default.not-Some x e)) in
+    let none = sym c.compare_coding.ensures ∙ nothing c.compare_coding.result (λ x e. c.in_default.not-Some x e) in
     IfOk-weaker c.compare_resolutions.result (λ (r : Option Spot). r ≡ find p (joined (resolution_items (geometry_at a) i) 0 (c.levels.result + 1))) (λ (r : Option Spot). r ≡ find p (component_items (geometry_at a) i))
     (λ r h. h ∙ ap (λ (n : ℕ). find p (joined (resolution_items (geometry_at a) i) 0 (n + 1))) c.levels.ensures.value ∙ sym (behind p items coefs (find p coefs) none refl)) c.compare_resolutions.ensures

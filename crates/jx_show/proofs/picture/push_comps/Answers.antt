@@ -1,13 +1,15 @@
-use Rattle.std.proofs.Common.{◌≡◌, ◌++◌, arith}
+use Rattle.std.proofs.Common.{◌≡◌, ◌++◌, arith, string_bytes}
 use Rattle.std.proofs.lemmas.Grind.{common_steps}
-use Rattle.jx_base.proofs.Joined.{appends_none, appends_next}
 use Rattle.jx_show.specs.Facts.{comp_facts}
+use Rattle.jx_show.specs.Stated.{text_of}
+use Rattle.jx_show.proofs.TextLemmas.{next, none}
 use Rattle.jx_show.proofs.picture.push_comps.Goals as goal
 
 pub loop-comp-init : goal.loop-comp-init
-loop-comp-init c = appends_none c.args.facts.now.items (comp_facts c.args.siz.now) 0 0 (omega arith)
+loop-comp-init c = none c.args.json (string_bytes c.args.text.now) (comp_facts c.args.siz.now) 0 0 (omega arith)
 
 pub loop-comp-preserved : goal.loop-comp-preserved
 loop-comp-preserved c =
-    let step : c.push_differing.new.facts.items ≡ c.loop-comp.facts.items ++ comp_facts c.args.siz.now c.loop-comp.comp = grind (arith, common_steps) in
-    appends_next c.args.facts.now.items c.loop-comp.facts.items c.push_differing.new.facts.items (comp_facts c.args.siz.now) 0 c.loop-comp.comp (omega arith) c.loop-comp.invariant step
+    let step : string_bytes c.push_differing.new.text ≡ string_bytes c.loop-comp.text ++ text_of c.args.json (comp_facts c.args.siz.now c.loop-comp.comp) = grind (arith, common_steps) in
+    next c.args.json (string_bytes c.args.text.now) (string_bytes c.loop-comp.text) (string_bytes c.push_differing.new.text) (comp_facts c.args.siz.now) 0 c.loop-comp.comp
+    (omega arith) c.loop-comp.invariant step

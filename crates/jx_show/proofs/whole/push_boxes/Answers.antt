@@ -1,12 +1,15 @@
-use Rattle.std.proofs.Common.{◌≡◌, ◌++◌, ◌∙◌, ap, List, ℕ, append_assoc, codes, string_bytes}
+use Rattle.std.proofs.Common.{◌≡◌, ◌++◌, List, ℕ, append_assoc, codes, string_bytes}
 use Rattle.jx_show.proofs.whole.push_boxes.Goals as goal
 
-appended : (t0 t1 t2 t3 a b c : List ℕ) → t1 ≡ t0 ++ a → t2 ≡ t1 ++ b → t3 ≡ t2 ++ c → t3 ≡ t0 ++ (a ++ (b ++ c))
-appended t0 t1 t2 t3 a b c h1 h2 h3 =
-    let h : t2 ≡ (t0 ++ a) ++ b = h2 ∙ ap (λ (t : List ℕ). t ++ b) h1 in
-    h3 ∙ (ap (λ (t : List ℕ). t ++ c) h ∙ (append_assoc (t0 ++ a) b c ∙ append_assoc t0 a (b ++ c)))
+regrouped : (t a b c d e : List ℕ) → ((((t ++ a) ++ b) ++ c) ++ d) ++ e ≡ t ++ (a ++ (b ++ (c ++ (d ++ e))))
+regrouped t a b c d e = simp append_assoc
+
+all : (t0 t1 t2 t3 t4 t5 a b c d e : List ℕ) → t1 ≡ t0 ++ a → t2 ≡ t1 ++ b → t3 ≡ t2 ++ c → t4 ≡ t3 ++ d → t5 ≡ t4 ++ e → t5 ≡ t0 ++ (a ++ (b ++ (c ++ (d ++ e))))
+all t0 t1 t2 t3 t4 t5 a b c d e h1 h2 h3 h4 h5 = rw (h5, h4, h3, h2, h1) (regrouped t0 a b c d e)
 
 pub returns : goal.returns
 returns c =
-    appended (string_bytes c.args.text.now) (string_bytes c.push_str.new.self) (string_bytes c.push_str-2.new.self) (string_bytes c.push_str-3.new.self)
-    (codes "{\n  \"file\": \"JP2\",\n  \"boxes\": [") c.args.names.now (codes "]") c.in_ok-push_str.ensures.bytes c.in_ok-push_str-2.ensures.bytes c.in_ok-push_str-3.ensures.bytes
+    all (string_bytes c.args.text.now) (string_bytes c.push_str.new.self) (string_bytes c.push_str-2.new.self) (string_bytes c.push_str-3.new.self)
+    (string_bytes c.push_str-4.new.self) (string_bytes c.push_str-5.new.self) (codes "{\n  \"file\": \"JP2\",\n  \"brand\": ") c.args.brand.now
+    (codes ",\n  \"boxes\": [") c.args.names.now (codes "]") c.in_ok-push_str.ensures.bytes c.in_ok-push_str-2.ensures.bytes c.in_ok-push_str-3.ensures.bytes
+    c.in_ok-push_str-4.ensures.bytes c.in_ok-push_str-5.ensures.bytes

@@ -2,7 +2,7 @@ use Rattle.std.proofs.Common.{◌∙◌, List, ap, arith, inl, length, sym}
 use Rattle.jx_base.specs.declared.pieces.Block.{Block}
 use Rattle.jx_rounds.proofs.FrontLemmas.{planned_few}
 use Rattle.jx_rounds.proofs.WriteLemmas.{unrisen}
-use Rattle.jx_transcode.proofs.SameLemmas.{both_told, first_unfit, first_unread, second_unwritten, unfit_of_first, unfit_unread}
+use Rattle.jx_transcode.proofs.SameLemmas.{both_told, first_unfit, first_unread, second_not_first, second_unwritten, unfit_of_first, unfit_unread, unread_not_first}
 use Rattle.jx_transcode.proofs.StatusLemmas.{failed_unread, unread_either, unread_failed, unread_unwritten}
 use Rattle.jx_transcode.proofs.commands.same.compare_files.Goals as goal
 
@@ -67,3 +67,12 @@ returns-clause-read_rose g c = λ rose. absurd (omega (arith, unrisen _ _ _ c.in
 
 pub overflow_cast-result : goal.overflow_cast-result
 overflow_cast-result g c = omega (arith, planned_few c.in-Ok-read_checked.accepted.picture.stream c.in-Ok-read_checked.accepted.picture.blocks.items c.in-Ok-read_checked.ensures.may, ap (λ (bs : List Block). length bs) c.deref-blocks.ensures.value)
+
+pub returns-in-Err-clause-unopened : goal.returns-in-Err-clause-unopened
+returns-in-Err-clause-unopened g c = λ of. absurd (unread_not_first _ (unread_either c.in-Err.refused _ c.unread_as.ensures) of)
+
+pub returns-in-Ok-read_checked-clause-unopened : goal.returns-in-Ok-read_checked-clause-unopened
+returns-in-Ok-read_checked-clause-unopened g c = λ of. absurd (second_not_first _ _ _ _ _ _ _ c.compare_second-status.ensures.told of)
+
+pub returns-clause-unopened : goal.returns-clause-unopened
+returns-clause-unopened g c = λ of. (c.in-Ok.held.items, rw (sym c.first.ensures) c.in-Ok.ensures.left)

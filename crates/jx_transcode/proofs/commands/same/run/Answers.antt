@@ -1,5 +1,5 @@
 use Rattle.jx_transcode.proofs.SaidLemmas.{read_said, rose_said, unread_said, unsaid, write_alone}
-use Rattle.jx_transcode.proofs.SameLemmas.{compared_said, of_first_said}
+use Rattle.jx_transcode.proofs.SameLemmas.{compared_said, of_first_before, of_first_said}
 use Rattle.jx_transcode.proofs.commands.same.run.Goals as goal
 
 pub returns-clause-ends : goal.returns-clause-ends
@@ -23,3 +23,6 @@ returns-clause-absent_too g c = λ absent. of_first_said _ _ _ _ _ _ _ (c.compar
 
 pub returns-clause-read_rose : goal.returns-clause-read_rose
 returns-clause-read_rose g c = λ rose. rose_said _ _ _ _ _ _ _ (c.compare_files-told.ensures.read_rose rose) c.say_told.ensures.says
+
+pub returns-clause-unopened : goal.returns-clause-unopened
+returns-clause-unopened g c = λ of. c.compare_files-told.ensures.unopened (of_first_before _ _ _ _ _ _ _ c.say_told.ensures.says of)

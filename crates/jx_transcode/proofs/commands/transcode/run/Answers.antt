@@ -81,3 +81,9 @@ returns-in-Err-clause-misfit g c = untold _ c.say_ending-in-Err.result.misfit (n
 
 pub answer-ending-requires-clause-task : goal.answer-ending-requires-clause-task
 answer-ending-requires-clause-task g c = λ lifetimes within. (rw c.options.ensures c.requires.wanted, omega (arith, c.reduce.ensures, c.requires.few), search rules)
+
+pub returns-in-Ok-clause-uncreated : goal.returns-in-Ok-clause-uncreated
+returns-in-Ok-clause-uncreated g c = λ absent. absurd (c.in-Ok.ensures.there (rw c.from.ensures absent))
+
+pub returns-in-Err-clause-uncreated : goal.returns-in-Err-clause-uncreated
+returns-in-Err-clause-uncreated g c = λ absent. c.in-Err.ensures.same

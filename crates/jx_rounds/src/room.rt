@@ -1,0 +1,57 @@
+//! How many bytes a tile has as it was read, against the room that a round has for them.
+
+ghost use Rattle.std.specs.Prelude.{◌≡◌, ◌<◌, ◌+◌, None, map, IfSome};
+ghost use Rattle.std.specs.List.{sum};
+ghost use Rattle.jx_rounds.specs.Tiles.{segment_size, size_of_tile};
+
+use jx_codestream::{Body, Tile};
+use jx_marker::Segment;
+
+/// Bytes that no segment of a tile's header has but a comment.
+const OTHER_SEGMENT: usize = 256;
+
+/// About how many bytes a segment of a tile's header takes.
+fn segment_size(segment: &Segment) -> usize
+    ensures { result ≡ segment_size segment.now }
+{
+    match segment {
+        Segment::Com(bytes) => bytes.as_slice().len(),
+        _ => OTHER_SEGMENT,
+    }
+}
+
+/// The room behind the data of tile-parts; none where it is too small.
+fn room_behind_data(room: usize, bodies: &[Body]) -> Option<usize>
+    ensures some { IfSome result (λ rest. rest + sum (map (λ b. b.length) bodies.now) ≡ room) }
+    ensures none { result ≡ None → room < sum (map (λ b. b.length) bodies.now) }
+{
+    let mut rest = room;
+    for body in bodies {
+        rest = rest.checked_sub(body.length as usize)?;
+    }
+    Some(rest)
+}
+
+/// The room behind segments of a header; none where it is too small.
+fn room_behind_segments(room: usize, segments: &[Segment]) -> Option<usize>
+    ensures some { IfSome result (λ rest. rest + sum (map segment_size segments.now) ≡ room) }
+    ensures none { result ≡ None → room < sum (map segment_size segments.now) }
+{
+    let mut rest = room;
+    for segment in segments {
+        rest = rest.checked_sub(segment_size(segment))?;
+    }
+    Some(rest)
+}
+
+/// The room that is left behind a tile as it was read; none where it is too small. The time grows with the tile-parts and the segments of
+/// their headers.
+pub fn room_behind(room: usize, tile: &Tile) -> Option<usize>
+    ensures some { IfSome result (λ rest. rest + size_of_tile tile.now ≡ room) }
+    ensures none { result ≡ None → room < size_of_tile tile.now }
+{
+    let behind_data = room_behind_data(room, tile.bodies.as_slice())?;
+    let behind_header = room_behind_segments(behind_data, tile.header.as_slice())?;
+    let rest = room_behind_segments(behind_header, tile.notes.as_slice())?;
+    Some(rest)
+}
