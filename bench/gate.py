@@ -3,7 +3,7 @@
 
 usage: bench/gate.py [--lanes N] [--slower F] [--take NAME=MINUTES] [--apart NAME:USER,USER] [--changed NAME] [LOG ..]
 
-Minutes of proofs, of tests' proofs and of edits come by crate from the table "Times" of docs/proof/notes.md. LOGs have lines that end with
+Minutes of proofs, of tests' proofs and of edits come by crate from the table "Times" of docs/proof/times.md. LOGs have lines that end with
 `NAME: proof passed in S s` (or `tests`, or `edits`); these take the place of the table's, divided by F, by which the machine and what ran
 beside made them longer (1). With `--changed` just this crate and those above it are counted, over what is kept of the rest. Two words say
 what a change would do, and may stand several times: `--take` sets a crate's proof (or NAME:tests, NAME:edits), and by `--apart` only these
@@ -41,9 +41,9 @@ def above(below, name):
 
 
 def table():
-    """Returns the minutes that docs/proof/notes.md has of each step. A row of several crates is parted evenly."""
+    """Returns the minutes that docs/proof/times.md has of each step. A row of several crates is parted evenly."""
     took = {}
-    with open(os.path.join(TOP, "docs", "proof", "notes.md"), encoding="utf-8") as file:
+    with open(os.path.join(TOP, "docs", "proof", "times.md"), encoding="utf-8") as file:
         times = file.read().partition("## Times")[2].partition("**Where a check's time goes**")[0]
     for line in times.splitlines():
         names, numbers = re.findall(r"`(jx_\w+)`", line), [float(it) for it in re.findall(r"\| ([0-9.]+) (?=\|)", line)]
