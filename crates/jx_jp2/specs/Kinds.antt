@@ -25,6 +25,22 @@ uinf = 0x7569_6E66
 abbrev pub ftbl : ℕ
 ftbl = 0x6674_626C
 
+-- flst: a list of fragments (T.801, Annex M)
+abbrev pub flst : ℕ
+flst = 0x666C_7374
+
+-- cref: a cross-reference (T.801, Annex M)
+abbrev pub cref : ℕ
+cref = 0x6372_6566
+
+-- chck: a digital signature of a part of the file (T.801, Annex M)
+abbrev pub chck : ℕ
+chck = 0x6368_636B
+
+-- pagt: a table of pages (ITU-T T.805)
+abbrev pub pagt : ℕ
+pagt = 0x7061_6774
+
 -- fidx: an index of the file (ITU-T T.808, Annex I)
 abbrev pub fidx : ℕ
 fidx = 0x6669_6478

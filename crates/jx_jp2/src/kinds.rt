@@ -12,6 +12,14 @@ pub const RES: u32 = 0x7265_7320;
 pub const UINF: u32 = 0x7569_6E66;
 /// `ftbl`: a fragment table (ITU-T T.801, Annex M).
 pub const FTBL: u32 = 0x6674_626C;
+/// `flst`: a list of fragments (T.801, Annex M).
+pub const FLST: u32 = 0x666C_7374;
+/// `cref`: a cross-reference (T.801, Annex M).
+pub const CREF: u32 = 0x6372_6566;
+/// `chck`: a digital signature of a part of the file (T.801, Annex M).
+pub const CHCK: u32 = 0x6368_636B;
+/// `pagt`: a table of pages (ITU-T T.805).
+pub const PAGT: u32 = 0x7061_6774;
 /// `fidx`: an index of the file (ITU-T T.808, Annex I).
 pub const FIDX: u32 = 0x6669_6478;
 /// `cidx`: an index of a codestream (T.808, Annex I).

@@ -2,20 +2,29 @@
 
 ghost use Rattle.std.specs.Prelude.{◌≡◌, ◌↔◌, ◌≤◌, length, IsTrue};
 ghost use Rattle.jx_base.specs.Limits.{most_bytes};
-ghost use Rattle.jx_jp2.specs.Positions.{has_positions, HoldsPositions};
+ghost use Rattle.jx_jp2.specs.Positions.{has_positions, is_index, HoldsPositions};
 
 use crate::heads::{read_box, tbox};
-use crate::kinds::{CIDX, FIDX, FTBL, IPTR};
+use crate::kinds::{CHCK, CIDX, CREF, FIDX, FLST, FTBL, IPTR, PAGT};
 
+/// Whether boxes of a type are indexes (ITU-T T.808, Annex I).
+fn is_index(kind: u32) -> bool
+    ensures { result ≡ is_index kind }
+{
+    kind == FIDX || kind == CIDX || kind == IPTR
+}
+
+/// Whether boxes of a type hold positions in the file.
 fn has_positions(kind: u32) -> bool
     ensures { result ≡ has_positions kind }
 {
-    kind == FTBL || kind == FIDX || kind == CIDX || kind == IPTR
+    let is_fragment = kind == FTBL || kind == FLST || kind == CREF;
+    is_fragment || kind == CHCK || kind == PAGT || is_index(kind)
 }
 
-/// Whether a box on the top level holds positions in the file: a fragment table, `ftbl` (ITU-T T.801, Annex M), or an index, `fidx`, `cidx`
-/// or `iptr` (ITU-T T.808, Annex I). Boxes are read in order, up to the first that breaks rule 32, 33 or 34, or to the file's end. It
-/// takes no memory.
+/// Whether a box on the top level holds positions in the file: fragments, a cross-reference or a signature, `ftbl`, `flst`, `cref`
+/// or `chck` (ITU-T T.801, Annex M), a table of pages, `pagt` (T.805), or an index, `fidx`, `cidx` or `iptr` (T.808, Annex I).
+/// Boxes are read in order, up to the first that breaks rule 32, 33 or 34, or to the file's end. It takes no memory.
 pub fn holds_positions(bytes: &[u8]) -> bool
     requires { length bytes.now ≤ most_bytes }
     ensures { IsTrue result ↔ HoldsPositions bytes.now }

@@ -11,6 +11,14 @@ use std::test::Fail;
 // A box of each type that holds positions, with 4 bytes of content, that of `iptr` with a long head.
 const FRAGMENTS: &[u8] = b"\0\0\0\x0Cftbl\0\0\0\x01";
 
+const FRAGMENT_LIST: &[u8] = b"\0\0\0\x0Cflst\0\0\0\x05";
+
+const REFERENCE: &[u8] = b"\0\0\0\x0Ccref\0\0\0\x06";
+
+const SIGNATURE: &[u8] = b"\0\0\0\x0Cchck\0\0\0\x07";
+
+const PAGES: &[u8] = b"\0\0\0\x0Cpagt\0\0\0\x08";
+
 const FILE_INDEX: &[u8] = b"\0\0\0\x0Cfidx\0\0\0\x02";
 
 const CODE_INDEX: &[u8] = b"\0\0\0\x0Ccidx\0\0\0\x03";
@@ -36,12 +44,12 @@ fn passes_over_others(rt: HostRuntime) -> Result<(), Fail> {
     holds(&rt, alloc, "empty", &[], false)?;
     holds(&rt, alloc, "usual", &[START, HEADER, SHORT, CONTENT], false)?;
     holds(&rt, alloc, "behind", &[START, LONG, CONTENT, HEADER], false)?;
-    // A fragment list alone, and a type that differs in its case.
+    // An association, and a type that differs in its case.
     holds(
         &rt,
         alloc,
         "alike",
-        &[START, b"\0\0\0\x08flst\0\0\0\x08FTBL", SHORT, CONTENT],
+        &[START, b"\0\0\0\x08asoc\0\0\0\x08FTBL", SHORT, CONTENT],
         false,
     )?;
     Ok(())
@@ -50,7 +58,16 @@ fn passes_over_others(rt: HostRuntime) -> Result<(), Fail> {
 #[test]
 fn finds_each_type(rt: HostRuntime) -> Result<(), Fail> {
     let alloc = rt.alloc();
-    for kind in [FRAGMENTS, FILE_INDEX, CODE_INDEX, FINDER] {
+    for kind in [
+        FRAGMENTS,
+        FRAGMENT_LIST,
+        REFERENCE,
+        SIGNATURE,
+        PAGES,
+        FILE_INDEX,
+        CODE_INDEX,
+        FINDER,
+    ] {
         holds(&rt, alloc, "alone", &[kind], true)?;
         holds(&rt, alloc, "before", &[START, kind, SHORT, CONTENT], true)?;
         holds(

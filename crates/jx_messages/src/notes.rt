@@ -15,7 +15,7 @@ fn positions_kept(alloc: Global, words: &[String]) -> Result<String, AllocError>
 {
     let output = name_at(words, 1);
     format!(in alloc;
-        "jx: {output}: boxes that hold positions in the file (ftbl, fidx, cidx or iptr)\n    are as they were in the input, and may be wrong now\n"
+        "jx: {output}: boxes that hold positions in the file (ftbl, flst, cref, chck,\n    pagt, fidx, cidx or iptr) are as they were in the input, and may be wrong now\n"
     )
 }
 
