@@ -1,12 +1,14 @@
 mod EntryLemmas
 mod ExtentLemmas
-pub mod FileLemmas
+mod FileLemmas
+pub mod FiledLemmas
 pub mod FrontLemmas
 pub mod IndexLemmas
 mod MeasureLemmas
+mod MemoryLemmas
 mod PackedLemmas
 mod PartLemmas
-pub mod TakenLemmas
+mod TakenLemmas
 pub mod TapedLemmas
 pub mod SentLemmas
 mod TileLemmas

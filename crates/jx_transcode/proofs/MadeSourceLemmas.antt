@@ -1,32 +1,44 @@
--- A generated codestream as it is read and rewritten.
-use Rattle.std.proofs.Common.{◌≡◌, ℕ, List, [], Option, None, Some, subst}
+-- A generated codestream as it is read, planned and written to memory.
+use Rattle.std.proofs.Common.{◌≡◌, ◌^◌, ◌≤◌, ℕ, List, [], length, Option, None, Some, refl, subst}
+use Rattle.std.specs.List.{sum}
 use Rattle.jx_base.specs.declared.pieces.Block.{Block}
 use Rattle.jx_codestream.specs.declared.Stream.{Stream}
+use Rattle.jx_io.specs.Stored.{empty}
 use Rattle.jx_jp2.specs.Codestream.{IsJp2}
 use Rattle.jx_jp2.specs.declared.Boxed.{Boxed}
 use Rattle.jx_cli.specs.MakeWords.{Make}
-use Rattle.jx_io.specs.Device.{Meaning}
-use Rattle.jx_options.specs.Work.{Work}
-use Rattle.jx_rounds.specs.declared.tape.TapeEntry.{TapeEntry}
-use Rattle.jx_transcode.specs.Aims.{Aim}
-use Rattle.jx_transcode.specs.Filed.{IsAnswered}
-use Rattle.jx_transcode.specs.MakeRun.{input_of, work_made}
+use Rattle.jx_transcode.specs.Aims.{rule_in}
+use Rattle.jx_transcode.specs.Filed.{IsAnswered, IsUnplannedEnd, blocks_told, told_of_plan}
+use Rattle.jx_transcode.specs.MakeRun.{ComesOut, IsReadyToSay, aim_made, input_of, wanted_made, work_made}
+use Rattle.jx_transcode.specs.Rewritten.{Reads, ReadsLeft}
 use Rattle.jx_transcode.specs.Sources.{IsUnfit, LiesIn}
-use Rattle.jx_transcode.specs.Rewritten.{Reads}
+use Rattle.jx_transcode.specs.declared.rewrite.Ending.{Ending}
 use Rattle.jx_transcode.specs.declared.status.Status.{Status}
-use Rattle.jx_transcode.proofs.MakeLemmas.{made_bare}
-use Rattle.jx_transcode.proofs.SourceLemmas.{unfit_bare}
-
-pub made_answered : (name : List ℕ) (m : Make) (work : Work) (aim own : Aim) (input : List ℕ) (s : Status) (blocks bytes : ℕ) (entries : List TapeEntry) (old new : Meaning) → IsAnswered name work aim input s blocks bytes entries old new
-    → work ≡ work_made → aim ≡ own → input ≡ input_of m → IsAnswered name work_made own (input_of m) s blocks bytes entries old new
-made_answered name m work aim own input s blocks bytes entries old new answer e f h =
-    let by : IsAnswered name work_made aim input s blocks bytes entries old new = subst (λ (x : Work). IsAnswered name x aim input s blocks bytes entries old new) e answer in
-    let aimed : IsAnswered name work_made own input s blocks bytes entries old new = subst (λ (x : Aim). IsAnswered name work_made x input s blocks bytes entries old new) f by in
-    subst (λ (x : List ℕ). IsAnswered name work_made own x s blocks bytes entries old new) h aimed
-
-pub made_unfit : (name : List ℕ) (m : Make) (aim : Aim) (input : List ℕ) (s : Status) (mm : Meaning) → input ≡ input_of m → IsUnfit aim.limit input s → IsAnswered name work_made aim (input_of m) s 0 0 [] mm mm
-made_unfit name m aim input s mm same is = unfit_bare name work_made aim (input_of m) s mm (made_bare m) (subst (λ (b : List ℕ). IsUnfit aim.limit b s) same is)
+use Rattle.jx_transcode.specs.declared.status.Status.TheVariants as status
+use Rattle.jx_transcode.proofs.DoneLemmas.{IsOther, undone}
+use Rattle.jx_transcode.proofs.MakeLemmas.{Rules, comes_unmade, made_bare, ready_of}
+use Rattle.jx_transcode.proofs.RefusedLemmas.{answered_unplanned, plan_told, told_unwritten}
+use Rattle.jx_transcode.proofs.SourceLemmas.{unfit_bare, unfit_other, unfit_told, unplanned_other}
 
 pub made_reads : (m : Make) (input : List ℕ) (boxed : Option Boxed) (from : ℕ) (inner : List ℕ) (s : Stream) (blocks : List Block) → input ≡ input_of m → LiesIn input boxed from inner → Reads inner s blocks → Reads input s blocks
 made_reads m input None from inner s blocks same lies reads = subst (λ (b : List ℕ). Reads b s blocks) lies.2 reads
 made_reads m input (Some boxed) from inner s blocks same lies reads = absurd (made_bare m (subst IsJp2 same lies.0))
+
+-- refused, which the generator's laws exclude but for memory
+pub made_unfit : (m : Make) (rule : Rules) (input : List ℕ) (s : Status) → input ≡ input_of m → IsUnfit (2 ^ 28) input s → IsReadyToSay m rule s 0 0 0 0 []
+made_unfit m rule input s same is =
+    let here : IsUnfit (2 ^ 28) (input_of m) s = subst (λ (b : List ℕ). IsUnfit (2 ^ 28) b s) same is in
+    let told = unfit_told (2 ^ 28) (input_of m) s here in
+    let other = unfit_other (2 ^ 28) (input_of m) s here in
+    ready_of m rule s 0 0 0 0 [] [] (comes_unmade [] work_made (aim_made rule) (input_of m) s 0 0 [] empty empty told other (unfit_bare [] work_made (aim_made rule) (input_of m) s empty (made_bare m) here)) (told_unwritten s told)
+    (λ done. absurd (undone s other done))
+
+pub made_unplanned : (m : Make) (rule : Rules) (input : List ℕ) (s : Stream) (blocks : List Block) (ending : Ending) → input ≡ input_of m → length input ≤ 2 ^ 28 → ReadsLeft 0 input s blocks
+    → IsUnplannedEnd (rule_in (aim_made rule) s blocks) s blocks wanted_made ending → IsReadyToSay m rule ending.status ending.blocks 0 0 0 []
+made_unplanned m rule input s blocks ending same within left over = rw (over.status_is, over.count_is) (
+    let here : ReadsLeft 0 (input_of m) s blocks = subst (λ (b : List ℕ). ReadsLeft 0 b s blocks) same left in
+    let short : length (input_of m) ≤ 2 ^ 28 = subst (λ (b : List ℕ). length b ≤ 2 ^ 28) same within in
+    ready_of m rule (told_of_plan over.why) (blocks_told over.why (length blocks)) 0 0 0 [] []
+    (comes_unmade [] work_made (aim_made rule) (input_of m) (told_of_plan over.why) (blocks_told over.why (length blocks)) 0 [] empty empty (plan_told over.why) (unplanned_other over.why)
+    (answered_unplanned [] work_made (aim_made rule) (input_of m) s blocks over.why (length blocks) empty over.cause refl short here))
+    (told_unwritten (told_of_plan over.why) (plan_told over.why)) (λ done. absurd (undone (told_of_plan over.why) (unplanned_other over.why) done)))
