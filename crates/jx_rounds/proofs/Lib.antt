@@ -8,7 +8,7 @@ mod MeasureLemmas
 mod MemoryLemmas
 mod PackedLemmas
 mod PartLemmas
-mod TakenLemmas
+pub mod TakenLemmas
 pub mod TapedLemmas
 pub mod SentLemmas
 mod TileLemmas

@@ -1,5 +1,5 @@
 -- A generated codestream as it is read, planned and written to memory.
-use Rattle.std.proofs.Common.{◌≡◌, ◌^◌, ◌≤◌, ℕ, List, [], length, Option, None, Some, refl, subst}
+use Rattle.std.proofs.Common.{◌≡◌, ◌∙◌, ◌^◌, ◌≤◌, ℕ, List, [], length, Option, None, Some, ap, refl, subst}
 use Rattle.std.specs.List.{sum}
 use Rattle.jx_base.specs.declared.pieces.Block.{Block}
 use Rattle.jx_codestream.specs.declared.Stream.{Stream}
@@ -7,14 +7,18 @@ use Rattle.jx_io.specs.Stored.{empty}
 use Rattle.jx_jp2.specs.Codestream.{IsJp2}
 use Rattle.jx_jp2.specs.declared.Boxed.{Boxed}
 use Rattle.jx_cli.specs.MakeWords.{Make}
+use Rattle.jx_options.specs.Work.{Work}
+use Rattle.jx_plan.specs.Plan.{Plan}
+use Rattle.jx_rounds.specs.declared.tape.TapeEntry.{TapeEntry}
 use Rattle.jx_transcode.specs.Aims.{rule_in}
-use Rattle.jx_transcode.specs.Filed.{IsAnswered, IsUnplannedEnd, blocks_told, told_of_plan}
+use Rattle.jx_transcode.specs.Filed.{IsAnswered, IsCarriedIn, IsUnplannedEnd, blocks_told, told_of_plan}
 use Rattle.jx_transcode.specs.MakeRun.{ComesOut, IsReadyToSay, aim_made, input_of, wanted_made, work_made}
 use Rattle.jx_transcode.specs.Rewritten.{Reads, ReadsLeft}
 use Rattle.jx_transcode.specs.Sources.{IsUnfit, LiesIn}
 use Rattle.jx_transcode.specs.declared.rewrite.Ending.{Ending}
 use Rattle.jx_transcode.specs.declared.status.Status.{Status}
 use Rattle.jx_transcode.specs.declared.status.Status.TheVariants as status
+use Rattle.jx_transcode.proofs.AroundLemmas.{carried_told}
 use Rattle.jx_transcode.proofs.DoneLemmas.{IsOther, undone}
 use Rattle.jx_transcode.proofs.MakeLemmas.{Rules, comes_unmade, made_bare, ready_of}
 use Rattle.jx_transcode.proofs.RefusedLemmas.{answered_unplanned, plan_told, told_unwritten}
@@ -25,20 +29,29 @@ made_reads m input None from inner s blocks same lies reads = subst (λ (b : Lis
 made_reads m input (Some boxed) from inner s blocks same lies reads = absurd (made_bare m (subst IsJp2 same lies.0))
 
 -- refused, which the generator's laws exclude but for memory
-pub made_unfit : (m : Make) (rule : Rules) (input : List ℕ) (s : Status) → input ≡ input_of m → IsUnfit (2 ^ 28) input s → IsReadyToSay m rule s 0 0 0 0 []
-made_unfit m rule input s same is =
+pub made_unfit : (m : Make) (rule : Rules) (input : List ℕ) (s : Status) (before after total : ℕ) → input ≡ input_of m → IsUnfit (2 ^ 28) input s → IsReadyToSay m rule s 0 before after total []
+made_unfit m rule input s before after total same is =
     let here : IsUnfit (2 ^ 28) (input_of m) s = subst (λ (b : List ℕ). IsUnfit (2 ^ 28) b s) same is in
     let told = unfit_told (2 ^ 28) (input_of m) s here in
     let other = unfit_other (2 ^ 28) (input_of m) s here in
-    ready_of m rule s 0 0 0 0 [] [] (comes_unmade [] work_made (aim_made rule) (input_of m) s 0 0 [] empty empty told other (unfit_bare [] work_made (aim_made rule) (input_of m) s empty (made_bare m) here)) (told_unwritten s told)
+    ready_of m rule s 0 before after total [] [] (comes_unmade [] work_made (aim_made rule) (input_of m) s 0 0 [] empty empty told other (unfit_bare [] work_made (aim_made rule) (input_of m) s empty (made_bare m) here)) (told_unwritten s told)
     (λ done. absurd (undone s other done))
 
-pub made_unplanned : (m : Make) (rule : Rules) (input : List ℕ) (s : Stream) (blocks : List Block) (ending : Ending) → input ≡ input_of m → length input ≤ 2 ^ 28 → ReadsLeft 0 input s blocks
-    → IsUnplannedEnd (rule_in (aim_made rule) s blocks) s blocks wanted_made ending → IsReadyToSay m rule ending.status ending.blocks 0 0 0 []
-made_unplanned m rule input s blocks ending same within left over = rw (over.status_is, over.count_is) (
+pub made_unplanned : (m : Make) (rule : Rules) (input : List ℕ) (s : Stream) (blocks : List Block) (ending : Ending) (before after total : ℕ) → input ≡ input_of m → length input ≤ 2 ^ 28 → ReadsLeft 0 input s blocks
+    → IsUnplannedEnd (rule_in (aim_made rule) s blocks) s blocks wanted_made ending → IsReadyToSay m rule ending.status ending.blocks before after total []
+made_unplanned m rule input s blocks ending before after total same within left over = rw (over.status_is, over.count_is) (
     let here : ReadsLeft 0 (input_of m) s blocks = subst (λ (b : List ℕ). ReadsLeft 0 b s blocks) same left in
     let short : length (input_of m) ≤ 2 ^ 28 = subst (λ (b : List ℕ). length b ≤ 2 ^ 28) same within in
-    ready_of m rule (told_of_plan over.why) (blocks_told over.why (length blocks)) 0 0 0 [] []
+    ready_of m rule (told_of_plan over.why) (blocks_told over.why (length blocks)) before after total [] []
     (comes_unmade [] work_made (aim_made rule) (input_of m) (told_of_plan over.why) (blocks_told over.why (length blocks)) 0 [] empty empty (plan_told over.why) (unplanned_other over.why)
     (answered_unplanned [] work_made (aim_made rule) (input_of m) s blocks over.why (length blocks) empty over.cause refl short here))
     (told_unwritten (told_of_plan over.why) (plan_told over.why)) (λ done. absurd (undone (told_of_plan over.why) (unplanned_other over.why) done)))
+
+-- what came out of a plan that was written to memory
+pub made_carried : (m : Make) (rule : Rules) (input : List ℕ) (work : Work) (p : Plan) (s : Status) (blocks before after total : ℕ) (out : List ℕ) (entries : List TapeEntry) → input ≡ input_of m → work ≡ work_made
+    → IsCarriedIn p work s blocks out entries → (IsCarriedIn p work_made s blocks out entries → ComesOut work_made (aim_made rule) input s blocks out entries) → before ≡ length input → after ≡ length out → total ≡ sum out
+    → IsReadyToSay m rule s blocks before after total entries
+made_carried m rule input work p s blocks before after total out entries same asked is comes long many summed =
+    ready_of m rule s blocks before after total out entries
+    (subst (λ (b : List ℕ). ComesOut work_made (aim_made rule) b s blocks out entries) same (comes (subst (λ (x : Work). IsCarriedIn p x s blocks out entries) asked is)))
+    (told_unwritten s (carried_told p work s blocks out entries is)) (λ done. (long ∙ ap (λ (b : List ℕ). length b) same, many, summed))

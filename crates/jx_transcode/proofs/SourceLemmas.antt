@@ -215,11 +215,13 @@ unplanned_misfit precincts aim input None from inner s blocks ending m same is o
 )
 unplanned_misfit precincts aim input (Some boxed) from inner s blocks ending m same is over by = inr (
   is.lies.0,
-  is.within,
-  boxed,
-  is.lies.1,
-  rw (same, sym is.lies.3)
-      (planned_misfit aim.wanted.precincts aim.reduce aim.limit inner s blocks over.why ending.status m (rw is.lies.3 (content_short aim.limit input boxed is.within)) is.left over.status_is by),
+  (
+    is.within,
+    boxed,
+    is.lies.1,
+    rw (same, sym is.lies.3)
+        (planned_misfit aim.wanted.precincts aim.reduce aim.limit inner s blocks over.why ending.status m (rw is.lies.3 (content_short aim.limit input boxed is.within)) is.left over.status_is by),
+  ),
 )
 
 -- ---- what is told of a file that is refused is no fault of a device, and doesn't speak of the words

@@ -66,7 +66,6 @@ impl Ending {
 /// The status of a file that wasn't written to its end.
 fn status_of(halt: Halt) -> Status
     ensures status { result ≡ status_of halt }
-    ensures past { IsPastRules result }
 {
     match halt {
         Halt::Bad { tile: _, number } => Status::Block { number },

@@ -1,6 +1,6 @@
-use Rattle.std.proofs.Common.{arith, refl, sym}
+use Rattle.std.proofs.Common.{arith, refl}
 use Rattle.jx_rounds.proofs.FrontLemmas.{planned_few}
-use Rattle.jx_transcode.proofs.MisfitLemmas.{caused_tile, told_on}
+use Rattle.jx_transcode.proofs.MisfitLemmas.{caused_tile, so, told_on}
 use Rattle.jx_transcode.proofs.rewrite.planned.Goals as goal
 
 pub plan_served-requires-clause-may : goal.plan_served-requires-clause-may
@@ -16,14 +16,14 @@ pub misfit_of-misfit-requires-clause-tile : goal.misfit_of-misfit-requires-claus
 misfit_of-misfit-requires-clause-tile g c = caused_tile _ c.args.picture.now.stream _ c.args.options.now c.in-Err.fault c.in-Err.ensures.cause
 
 pub returns-in-Ok-clause-plan : goal.returns-in-Ok-clause-plan
-returns-in-Ok-clause-plan g c = rw (sym c.deref-blocks.ensures.value, sym c.shortened.ensures) c.in-Ok.ensures.planned
+returns-in-Ok-clause-plan g c = so c.in-Ok.ensures.planned (rw (c.shortened.ensures, c.deref-blocks.ensures.value) (λ is. is))
 
 pub returns-in-Err-clause-err : goal.returns-in-Err-clause-err
 returns-in-Err-clause-err g c = record {
   why = c.in-Err.fault;
-  cause = rw (sym c.deref-blocks.ensures.value, sym c.shortened.ensures) c.in-Err.ensures.cause;
+  cause = so c.in-Err.ensures.cause (rw (c.shortened.ensures, c.deref-blocks.ensures.value) (λ is. is));
   status_is = c.unplanned_by.ensures.status;
-  count_is = rw (sym c.deref-blocks.ensures.value) c.unplanned_by.ensures.blocks.0;
+  count_is = so c.unplanned_by.ensures.blocks.0 (rw c.deref-blocks.ensures.value (λ is. is));
   none = c.unplanned_by.ensures.blocks.1;
   tape = c.unplanned_by.ensures.tape;
   misfit = told_on _ _ c.misfit_of-misfit.result c.unplanned_by.result.misfit c.unplanned_by.ensures.misfit (λ m is. is) c.misfit_of-misfit.ensures;
