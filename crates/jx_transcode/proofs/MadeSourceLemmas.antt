@@ -8,9 +8,11 @@ use Rattle.jx_jp2.specs.Codestream.{IsJp2}
 use Rattle.jx_jp2.specs.declared.Boxed.{Boxed}
 use Rattle.jx_cli.specs.MakeWords.{Make}
 use Rattle.jx_options.specs.Work.{Work}
+use Rattle.jx_options.specs.Wanted.{MayBeWanted}
 use Rattle.jx_plan.specs.Plan.{Plan}
+use Rattle.jx_plan.specs.Planned.{IsPlanned}
 use Rattle.jx_rounds.specs.declared.tape.TapeEntry.{TapeEntry}
-use Rattle.jx_transcode.specs.Aims.{rule_in}
+use Rattle.jx_transcode.specs.Aims.{Aim, rule_in}
 use Rattle.jx_transcode.specs.Filed.{IsAnswered, IsCarriedIn, IsUnplannedEnd, blocks_told, told_of_plan}
 use Rattle.jx_transcode.specs.MakeRun.{ComesOut, IsReadyToSay, aim_made, input_of, wanted_made, work_made}
 use Rattle.jx_transcode.specs.Rewritten.{Reads, ReadsLeft}
@@ -20,7 +22,7 @@ use Rattle.jx_transcode.specs.declared.status.Status.{Status}
 use Rattle.jx_transcode.specs.declared.status.Status.TheVariants as status
 use Rattle.jx_transcode.proofs.AroundLemmas.{carried_told}
 use Rattle.jx_transcode.proofs.DoneLemmas.{IsOther, undone}
-use Rattle.jx_transcode.proofs.MakeLemmas.{Rules, comes_unmade, made_bare, ready_of}
+use Rattle.jx_transcode.proofs.MakeLemmas.{Rules, comes_unmade, made_bare, ready_of, wanted_may}
 use Rattle.jx_transcode.proofs.RefusedLemmas.{answered_unplanned, plan_told, told_unwritten}
 use Rattle.jx_transcode.proofs.SourceLemmas.{unfit_bare, unfit_other, unfit_told, unplanned_other}
 
@@ -48,10 +50,16 @@ made_unplanned m rule input s blocks ending before after total same within left 
     (told_unwritten (told_of_plan over.why) (plan_told over.why)) (λ done. absurd (undone (told_of_plan over.why) (unplanned_other over.why) done)))
 
 -- what came out of a plan that was written to memory
-pub made_carried : (m : Make) (rule : Rules) (input : List ℕ) (work : Work) (p : Plan) (s : Status) (blocks before after total : ℕ) (out : List ℕ) (entries : List TapeEntry) → input ≡ input_of m → work ≡ work_made
-    → IsCarriedIn p work s blocks out entries → (IsCarriedIn p work_made s blocks out entries → ComesOut work_made (aim_made rule) input s blocks out entries) → before ≡ length input → after ≡ length out → total ≡ sum out
-    → IsReadyToSay m rule s blocks before after total entries
-made_carried m rule input work p s blocks before after total out entries same asked is comes long many summed =
-    ready_of m rule s blocks before after total out entries
-    (subst (λ (b : List ℕ). ComesOut work_made (aim_made rule) b s blocks out entries) same (comes (subst (λ (x : Work). IsCarriedIn p x s blocks out entries) asked is)))
-    (told_unwritten s (carried_told p work s blocks out entries is)) (λ done. (long ∙ ap (λ (b : List ℕ). length b) same, many, summed))
+abbrev pub CarriesOut : Type 0
+CarriesOut =
+    (work : Work) (aim : Aim) (input : List ℕ) (s : Stream) (blocks : List Block) (p : Plan) (st : Status) (count : ℕ) (out : List ℕ) (tape : List TapeEntry) → MayBeWanted aim.wanted → IsPlanned (rule_in aim s blocks) s blocks aim.wanted p
+    → length input ≤ aim.limit → ReadsLeft aim.reduce input s blocks → IsCarriedIn p work st count out tape → ComesOut work aim input st count out tape
+
+pub made_carried : (m : Make) (rule : Rules) (input : List ℕ) (work : Work) (s : Stream) (all : List Block) (p : Plan) (st : Status) (blocks before after total : ℕ) (out : List ℕ) (entries : List TapeEntry) → CarriesOut → input ≡ input_of m
+    → work ≡ work_made → IsPlanned (rule_in (aim_made rule) s all) s all wanted_made p → length input ≤ 2 ^ 28 → ReadsLeft 0 input s all → IsCarriedIn p work st blocks out entries → before ≡ length input → after ≡ length out → total ≡ sum out
+    → IsReadyToSay m rule st blocks before after total entries
+made_carried m rule input work s all p st blocks before after total out entries law same asked planned within reads is long many summed =
+    ready_of m rule st blocks before after total out entries
+    (subst (λ (b : List ℕ). ComesOut work_made (aim_made rule) b st blocks out entries) same
+    (law work_made (aim_made rule) input s all p st blocks out entries (wanted_may wanted_made refl) planned within reads (subst (λ (x : Work). IsCarriedIn p x st blocks out entries) asked is)))
+    (told_unwritten st (carried_told p work st blocks out entries is)) (λ done. (long ∙ ap (λ (b : List ℕ). length b) same, many, summed))
