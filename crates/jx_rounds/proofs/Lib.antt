@@ -9,7 +9,7 @@ mod MemoryLemmas
 mod PackedLemmas
 mod PartLemmas
 pub mod TakenLemmas
-pub mod TapedLemmas
+mod TapedLemmas
 pub mod SentLemmas
 mod TileLemmas
 pub mod WriteLemmas

@@ -21,6 +21,8 @@ use Rattle.jx_plan.specs.declared.faults.PlanFault.TheVariants as unplanned
 use Rattle.jx_transcode.specs.Aims.{Aim, rule_in}
 use Rattle.jx_transcode.specs.Filed.{IsAnswered, IsUnplannedEnd, all_told, blocks_told, told_of_all, told_of_plan}
 use Rattle.jx_transcode.specs.MakeRun.{ComesOut}
+use Rattle.jx_options.specs.Wanted.{Wanted}
+use Rattle.jx_layers.specs.Rule.{Rule}
 use Rattle.jx_transcode.specs.Misfits.{IsMisfitBy, IsMisfitOfFile}
 use Rattle.jx_transcode.specs.declared.rewrite.Ending.{Ending}
 use Rattle.jx_transcode.specs.Jp2Run.{EndsAround, EndsJp2, IsPastRules}
@@ -206,21 +208,19 @@ unplanned_jp2 name work kind aim input (Some boxed) from inner s blocks ending m
     comes_unmade [] work aim (content input boxed) (told_of_plan over.why) (blocks_told over.why (length blocks)) 0 [] mm mm (plan_told over.why) (unplanned_other over.why) own in
     inr (boxed, around_refused name work kind aim input boxed (told_of_plan over.why) (blocks_told over.why (length blocks)) [] [] mm is.within is.lies.1 comes (unplanned_past over.why) (undone (told_of_plan over.why) (unplanned_other over.why))))
 
-pub unplanned_misfit : (precincts : Option (List ℕ)) (aim : Aim) (input : List ℕ) (boxed : Option Boxed) (from : ℕ) (inner : List ℕ) (s : Stream) (blocks : List Block) (ending : Ending) (m : Misfit) → precincts ≡ aim.wanted.precincts
-    → IsLeftIn aim input boxed from inner s blocks → (over : IsUnplannedEnd (rule_in aim s blocks) s blocks aim.wanted ending) → IsMisfitBy aim.wanted.precincts s over.why m → IsMisfitOfFile precincts aim.reduce aim.limit input ending.status m
-unplanned_misfit precincts aim input None from inner s blocks ending m same is over by = inl (
-  is.lies.0,
-  rw (same, sym is.lies.2)
-      (planned_misfit aim.wanted.precincts aim.reduce aim.limit inner s blocks over.why ending.status m (rw is.lies.2 is.within) is.left over.status_is by),
+pub unplanned_misfit : (w : Wanted) (rule : Option Rule) (d limit : ℕ) (input : List ℕ) (boxed : Option Boxed) (from : ℕ) (inner : List ℕ) (s : Stream) (blocks : List Block) (ending : Ending) (m : Misfit) → length input ≤ limit
+    → LiesIn input boxed from inner → ReadsLeft d inner s blocks → (over : IsUnplannedEnd rule s blocks w ending) → IsMisfitBy w.precincts s over.why m → IsMisfitOfFile w.precincts d limit input ending.status m
+unplanned_misfit w rule d limit input None from inner s blocks ending m within lies left over by = inl (
+  lies.0,
+  rw (sym lies.2) (planned_misfit w.precincts d limit inner s blocks over.why ending.status m (rw lies.2 within) left over.status_is by),
 )
-unplanned_misfit precincts aim input (Some boxed) from inner s blocks ending m same is over by = inr (
-  is.lies.0,
+unplanned_misfit w rule d limit input (Some boxed) from inner s blocks ending m within lies left over by = inr (
+  lies.0,
   (
-    is.within,
+    within,
     boxed,
-    is.lies.1,
-    rw (same, sym is.lies.3)
-        (planned_misfit aim.wanted.precincts aim.reduce aim.limit inner s blocks over.why ending.status m (rw is.lies.3 (content_short aim.limit input boxed is.within)) is.left over.status_is by),
+    lies.1,
+    rw (sym lies.3) (planned_misfit w.precincts d limit inner s blocks over.why ending.status m (rw lies.3 (content_short limit input boxed within)) left over.status_is by),
   ),
 )
 

@@ -99,8 +99,8 @@ returns-in-Err-planned-clause-short g c = λ done. c.in-Ok.ensures.within
 
 pub returns-in-Err-planned-clause-misfit : goal.returns-in-Err-planned-clause-misfit
 returns-in-Err-planned-clause-misfit g c = told_on _ _ c.in-Err-planned.ending.misfit c.in-Err-planned.ending.misfit (each_told c.in-Err-planned.ending.misfit)
-    (λ m by. unplanned_misfit _ _ c.args.input.now c.in-Ok.read.source.boxed c.in-Ok.read.source.from c.in-Ok.read.source.codestream.now c.in-Ok-without_resolutions.left.stream c.in-Ok-without_resolutions.left.blocks.items c.in-Err-planned.ending m refl
-    (record { within = c.in-Ok.ensures.within; lies = c.in-Ok.ensures.source.lies; left = c.in-Ok-without_resolutions.ensures.ok c.in-Ok.read.source.codestream.now c.in-Ok.ensures.reads }) c.in-Err-planned.ensures.err by) c.in-Err-planned.ensures.err.misfit
+    (λ m by. unplanned_misfit c.args.task.now.options.now _ _ _ c.args.input.now c.in-Ok.read.source.boxed c.in-Ok.read.source.from c.in-Ok.read.source.codestream.now c.in-Ok-without_resolutions.left.stream c.in-Ok-without_resolutions.left.blocks.items c.in-Err-planned.ending m
+    c.in-Ok.ensures.within c.in-Ok.ensures.source.lies (c.in-Ok-without_resolutions.ensures.ok c.in-Ok.read.source.codestream.now c.in-Ok.ensures.reads) c.in-Err-planned.ensures.err by) c.in-Err-planned.ensures.err.misfit
 
 -- ---- a codestream
 pub returns-in-None-clause-bare : goal.returns-in-None-clause-bare
