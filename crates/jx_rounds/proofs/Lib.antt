@@ -1,13 +1,15 @@
 mod EntryLemmas
 mod ExtentLemmas
-pub mod FileLemmas
+mod FileLemmas
+pub mod FiledLemmas
 pub mod FrontLemmas
 pub mod IndexLemmas
 mod MeasureLemmas
+mod MemoryLemmas
 mod PackedLemmas
 mod PartLemmas
 pub mod TakenLemmas
-pub mod TapedLemmas
+mod TapedLemmas
 pub mod SentLemmas
 mod TileLemmas
 pub mod WriteLemmas

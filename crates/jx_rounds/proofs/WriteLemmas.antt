@@ -245,6 +245,17 @@ fault_halted p head (halt.TooLong tile) old new never halted = absurd never
 fault_halted p head halt.Failed old new fault halted = halted
 fault_halted p head halt.NoMemory old new fault halted = halted
 
+halted_fault : (p : Plan) (head : List ℕ) (h : Halt) (old new : Option (List ℕ)) → IsFault h → IsHaltedByFault p head old new → IsHalted p head h old new
+halted_fault p head (halt.Bad tile number) old new never cut = absurd never
+halted_fault p head (halt.TooLong tile) old new never cut = absurd never
+halted_fault p head halt.Failed old new fault cut = cut
+halted_fault p head halt.NoMemory old new fault cut = cut
+
+pub held_halted : {T : Type 0} (r : Result T Halt) (p : Plan) (head : List ℕ) (old new : Option (List ℕ)) → OnErr r (IsHaltedByFault p head old new) → IfErr r (λ h. IsFault h)
+    → IfErr r (λ h. IsHalted p head h old new)
+held_halted (Ok x) p head old new cut fault = tt
+held_halted (Err h) p head old new cut fault = halted_fault p head h old new fault cut
+
 -- ---- a call that was refused
 pub halt_fault : (h : Halt) (e : Refused) → h ≡ halt_of e → IsFault h
 halt_fault h refused.Failed is = rw is tt

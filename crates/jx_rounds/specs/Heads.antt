@@ -1,4 +1,4 @@
--- What stands before the first tile-part, and what was found out for it: how long all tile-parts are (T.800, A.7.1).
+-- What stands before the first tile-part, what was found out for it: how long all tile-parts are (T.800, A.7.1), and the whole codestream.
 use Rattle.std.specs.Prelude.{◌≡◌, ◌⊎◌, ℕ, true, false, List, ◌++◌, length}
 use Rattle.jx_codestream.specs.First.{tile_number}
 use Rattle.jx_codestream.specs.Spells.{all_bytes}
@@ -6,7 +6,7 @@ use Rattle.jx_plan.specs.Plan.{Plan, headers_of}
 use Rattle.jx_tier2_writer.specs.Index.{index_segments}
 use Rattle.jx_tier2_writer.specs.Tile.{main_bytes}
 use Rattle.jx_tier2_writer.specs.declared.index.PartLength.{PartLength}
-use Rattle.jx_rounds.specs.Rounds.{IsShortFront, IsSpoiledTile}
+use Rattle.jx_rounds.specs.Rounds.{IsShortFront, IsSpoiledTile, IsWholeFile}
 use Rattle.jx_rounds.specs.Sent.{PartSent, bytes_sent, lengths_sent}
 use Rattle.jx_rounds.specs.declared.halt.Halt.{Halt}
 use Rattle.jx_rounds.specs.declared.halt.Halt.TheVariants as halt
@@ -39,3 +39,9 @@ pub record IsIndexed (p : Plan) (head : List ℕ) : Type 0 where
 -- what stands before the first tile-part: the main header, and the index where it is asked
 abbrev pub IsHead : Plan → List ℕ → Type 0
 IsHead p head = ((p.wanted.marks.tlm ≡ false) × (head ≡ main_bytes (headers_of p))) ⊎ ((p.wanted.marks.tlm ≡ true) × IsIndexed p head)
+
+-- the bytes of a plan's codestream: a head, all tiles and EOC
+pub record IsCodestreamOf (p : Plan) (bytes : List ℕ) : Type 0 where
+  pub head : List ℕ
+  pub is : IsHead p head
+  pub whole : IsWholeFile p head bytes

@@ -1,10 +1,11 @@
 //! A plan, written in rounds of tiles: the code-blocks of a round are made by workers, its tile-parts are packed, and then they are
-//! written, one after another.
+//! written to a file or to memory, one after another.
 #![tactic(auto)]
 
 mod blind_writer;
 mod buffer;
 mod crew;
+mod file;
 mod file_writer;
 mod halt;
 mod head;
@@ -13,6 +14,7 @@ mod making;
 mod measure;
 mod memory_writer;
 mod packed;
+mod ready;
 mod room;
 mod rounds;
 mod tape;
@@ -20,13 +22,9 @@ mod tile;
 mod write;
 mod writer;
 
-pub use buffer::ENOUGH;
-pub use crew::{Crew, is_anew};
-pub use halt::{Halt, halt_of};
-pub use head::indexed_head;
-pub use making::Making;
-pub use measure::{Held, held_parts, measured_parts};
+pub use crew::Crew;
+pub use file::{write_file, write_memory};
+pub use halt::Halt;
 pub use memory_writer::MemoryWriter;
 pub use tape::TapeEntry;
-pub use write::{write_codestream, write_held};
 pub use writer::ByteWriter;

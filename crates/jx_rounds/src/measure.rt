@@ -89,6 +89,7 @@ pub fn held_parts<R: Threads + Wait + Sync, G: Gate + Sync>(
     ensures tape { IsTapeOf crew.now.work making.now.blocks tape.new.items }
     ensures whole { OnOk result (length tape.new.items ≡ length making.now.blocks) }
     ensures taped { IfErr result (λ h. IsTapedTo making.now h (length tape.new.items)) }
+    ensures buffer { OnOk result (buffer.new.items ≡ []) }
 {
     let mut parts = MemoryWriter::new(alloc);
     let mut lengths = Lengths::asked(alloc);

@@ -28,6 +28,13 @@ impl MemoryWriter {
     {
         &self.bytes
     }
+
+    /// The buffer itself.
+    pub fn into_bytes(self) -> Vec<u8>
+        ensures { Some result.items ≡ ⟦<MemoryWriter as ByteWriter>⟧.written self }
+    {
+        self.bytes
+    }
 }
 
 impl ByteWriter for MemoryWriter {

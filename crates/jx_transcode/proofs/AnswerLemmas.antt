@@ -34,12 +34,14 @@ use Rattle.jx_tier2_writer.specs.Tile.{IsTooLong, blocks_in, main_bytes}
 use Rattle.jx_tier2_writer.specs.TileParts.{AreTilePartsOf, IsOutput}
 use Rattle.jx_tier2_writer.specs.declared.index.PartLength.{PartLength}
 use Rattle.jx_transcode.specs.Aims.{Aim, rule_in}
-use Rattle.jx_transcode.specs.Filed.{IsAnswered, IsFileBegun, IsFileCut, IsFileHalted, IsFileMade, IsFileSpoiled, IsEndOf, status_of}
-use Rattle.jx_transcode.specs.Outcome.{IsCutShort, IsStopped, IsUnbegun, IsUnfinished, IsVerdict, Leaves, LeavesBegun}
+use Rattle.jx_rounds.specs.Files.{IsFileBegun, IsFileCut, IsFileHalted, IsFileMade, IsFileSpoiled, IsStopped, IsUnfinished}
+use Rattle.jx_transcode.specs.Filed.{IsAnswered, IsCarriedIn, IsCarriedOut, IsEndIn, IsEndOf, status_of}
+use Rattle.jx_transcode.specs.MakeRun.{ComesOut}
+use Rattle.jx_transcode.specs.Outcome.{IsCutShort, IsUnbegun, IsVerdict, Leaves, LeavesBegun}
 use Rattle.jx_transcode.specs.Rewritten.{CanBePlanned, HasBlocks, IsBad, IsFront, IsFrontOf, IsKept, IsLong, IsRewritten, IsSpoiled, ReadsLeft, headers_of}
 use Rattle.jx_rounds.specs.Tiles.{IsRight, IsWrongAt, Round, tile_size}
 use Rattle.jx_transcode.specs.Rewritten.{IsTooLongAt}
-use Rattle.jx_rounds.specs.Heads.{IsHead, IsIndexed}
+use Rattle.jx_rounds.specs.Heads.{IsCodestreamOf, IsHead, IsIndexed, IsUnmeasured}
 use Rattle.jx_rounds.specs.Rounds.{EndWithRound, IsHaltedAt, IsRoundFront, IsShortFront, IsSpoiledBy, IsSpoiledTile, IsTapedTo, IsWholeFile, most_of_part, round_in}
 use Rattle.jx_rounds.specs.Sent.{PartSent, bytes_sent, sent_of}
 use Rattle.jx_rounds.specs.declared.halt.Halt.{Halt}
@@ -59,20 +61,6 @@ use Rattle.jx_transcode.proofs.TapeLemmas.{in_rounds, start_below, start_grows}
 use Rattle.jx_transcode.proofs.WrongLemmas.{all_right, right_or_wrong}
 
 -- ---- a plan was carried out: its file was written, or halted
-pub record IsCarriedOut (p : Plan) (name : Text) (work : Work) (written : Result ℕ Halt) (blocks : ℕ) (entries : List TapeEntry) (old new : Meaning) : Type 0 where
-  pub plan : IsPlan p
-  pub count : blocks ≡ length p.blocks
-  pub tape : IsTapeOf work p.blocks entries
-  pub whole : OnOk written (length entries ≡ length p.blocks)
-  pub taped : IfErr written (λ why. IsTapedTo p why (length entries))
-  pub ok : IfOk written (λ count. IsFileMade p name count old new)
-  pub err : IfErr written (λ why. IsFileHalted p name why old new)
-
-pub carried_out : (p : Plan) (name : Text) (work : Work) (written : Result ℕ Halt) (blocks : ℕ) (tape : List TapeEntry) (old new : Meaning) → IsPlan p → blocks ≡ length p.jobs → IsTapeOf work p.blocks tape
-    → OnOk written (length tape ≡ length p.blocks) → IfErr written (λ why. IsTapedTo p why (length tape)) → IfOk written (λ count. IsFileMade p name count old new) → IfErr written (λ why. IsFileHalted p name why old new)
-    → IsCarriedOut p name work written blocks tape old new
-carried_out p name work written blocks tape old new plan count of whole taped ok err = record { plan = plan; count = count ∙ plan.all; tape = of; whole = whole; taped = taped; ok = ok; err = err }
-
 halted_undone : (h : Halt) → status_of h ≡ status.Done → ⊥
 halted_undone (halt.Bad tile number) e = cc
 halted_undone (halt.TooLong tile) e = cc
@@ -453,6 +441,75 @@ module _ (laws : Laws) (aim : Aim) (input : List ℕ) (s : Stream) (blocks : Lis
       → IsEndOf wrote st bytes → IsAnswered name work aim input st n bytes tape old new
   answered name work (Ok count) st n bytes tape old new is ends = rw (ends.0, ends.1) (written name work n count tape old new is.count is.tape is.whole is.ok)
   answered name work (Err why) st n bytes tape old new is ends = rw ends.0 (halted name work n bytes tape old new is.count is.tape why is.err is.taped)
+
+  -- ---- where it was written to memory
+  module _ (work : Work) (n : ℕ) (tape : List TapeEntry) (count : n ≡ length blocks) (of : IsTapeOf work blocks tape) where
+    tape_is : IsRunTape work aim.reduce input tape
+    tape_is = inr (record { stream = s; blocks = blocks; reads = reads; of = of })
+
+    comes_whole : (out : List ℕ) → IsCodestreamOf plan out → length tape ≡ length blocks → ComesOut work aim input status.Done n out tape
+    comes_whole out is whole = record {
+      verdict = λ v. (within, out, rewritten_of is.head out is.whole is.is);
+      tells = record { is = rewritten_of is.head out is.whole is.is; kept = kept_of is.head out is.whole is.is; count = counted n count };
+      tape = tape_is;
+      whole = λ done. counted (length tape) whole;
+      taped = counted (length tape) whole;
+    }
+
+    comes_halted : (h : Halt) (out : List ℕ) → IsUnmeasured plan h → IsTapedTo plan h (length tape) → ComesOut work aim input (status_of h) n out tape
+    comes_halted (halt.Bad t number) out is to =
+        let spoiled : IsSpoiledBy plan t (halt.Bad t number) = is.spoiled in
+        let wrong : IsWrongAt w s blocks t number = spoiled.1 in
+        record {
+          verdict = λ v. (within, bad_of t number is);
+          tells = counted n count;
+          tape = tape_is;
+          whole = λ done. absurd (halted_undone (halt.Bad t number) done);
+          taped = record { stream = s; blocks = blocks; reads = reads; tile = t; inside = is.inside; from = wrong.from; below = wrong.below; count_is = to };
+        }
+    comes_halted (halt.TooLong t) out is to = record {
+      verdict = λ v. (within, inl (refl, too_long_of t is));
+      tells = inl ((λ e. omega (arith, e), λ e. omega (arith, e)), counted n count);
+      tape = tape_is;
+      whole = λ done. absurd (halted_undone (halt.TooLong t) done);
+      taped = inl (refl, record { stream = s; blocks = blocks; reads = reads; inside = is.inside; count_is = to });
+    }
+    comes_halted halt.Failed out never to = absurd never
+    comes_halted halt.NoMemory out free to = record {
+      verdict = λ v. absurd v;
+      tells = inr (inl (counted n count));
+      tape = tape_is;
+      whole = λ done. absurd (halted_undone halt.NoMemory done);
+      taped = inr (in_rounds aim.reduce input plan (length tape) reads all to);
+    }
+
+    comes_by : (st : Status) (out : List ℕ) → IsEndIn plan st out (length tape) → ComesOut work aim input st n out tape
+    comes_by st out (inl done) = rw done.0 (comes_whole out done.1 done.2)
+    comes_by st out (inr (why, is, unmade, to)) = rw is (comes_halted why out unmade to)
+
+  pub comes : (work : Work) (st : Status) (n : ℕ) (out : List ℕ) (tape : List TapeEntry) → IsCarriedIn plan work st n out tape → ComesOut work aim input st n out tape
+  comes work st n out tape is = comes_by work n tape is.count is.tape st out is.ends
+
+comes_by_rule : Laws → (work : Work) (aim : Aim) (input : List ℕ) (s : Stream) (blocks : List Block) (p : Plan) (st : Status) (n : ℕ) (out : List ℕ) (tape : List TapeEntry)
+    → MayBeWanted aim.wanted → (r : Rule) → rule_in aim s blocks ≡ Some r → IsPlannedBy r s blocks aim.wanted p → length input ≤ aim.limit → ReadsLeft aim.reduce input s blocks → IsCarriedIn p work st n out tape
+    → ComesOut work aim input st n out tape
+comes_by_rule laws work aim input s blocks p st n out tape may r is planned within reads done =
+    let same : p ≡ plan_of s blocks aim.wanted (layers_of_rule r s blocks) p.jobs = plan_is r s blocks aim.wanted p planned in
+    let own : IsCarriedIn (plan_of s blocks aim.wanted (layers_of_rule r s blocks) p.jobs) work st n out tape = subst (λ (q : Plan). IsCarriedIn q work st n out tape) same done in
+    let can : CanBePlanned aim s blocks = record { by = r; is = is; layers = (own.plan.some, own.plan.few); free = laws.free s blocks aim.wanted r p done.plan planned } in
+    comes laws aim input s blocks p.jobs reads own.plan.may within may can (laws.blocks s blocks aim.wanted r p done.plan planned) own.plan.may.blocks_are.all work st n out tape own
+
+comes_if : Laws → (work : Work) (aim : Aim) (input : List ℕ) (s : Stream) (blocks : List Block) (p : Plan) (st : Status) (n : ℕ) (out : List ℕ) (tape : List TapeEntry)
+    → MayBeWanted aim.wanted → (o : Option Rule) → rule_in aim s blocks ≡ o → IsPlanned o s blocks aim.wanted p → length input ≤ aim.limit → ReadsLeft aim.reduce input s blocks → IsCarriedIn p work st n out tape
+    → ComesOut work aim input st n out tape
+comes_if laws work aim input s blocks p st n out tape may None is planned within reads done = absurd planned
+comes_if laws work aim input s blocks p st n out tape may (Some r) is planned within reads done = comes_by_rule laws work aim input s blocks p st n out tape may r is planned within reads done
+
+pub comes_by_plan : Laws → (work : Work) (aim : Aim) (input : List ℕ) (s : Stream) (blocks : List Block) (p : Plan) (st : Status) (n : ℕ) (out : List ℕ) (tape : List TapeEntry)
+    → MayBeWanted aim.wanted → IsPlanned (rule_in aim s blocks) s blocks aim.wanted p → length input ≤ aim.limit → ReadsLeft aim.reduce input s blocks → IsCarriedIn p work st n out tape
+    → ComesOut work aim input st n out tape
+comes_by_plan laws work aim input s blocks p st n out tape may planned within reads done =
+    comes_if laws work aim input s blocks p st n out tape may (rule_in aim s blocks) refl planned within reads done
 
 answered_by_rule : Laws → (name : Text) (work : Work) (aim : Aim) (input : List ℕ) (s : Stream) (blocks : List Block) (p : Plan) (wrote : Result ℕ Halt) (st : Status) (n bytes : ℕ) (tape : List TapeEntry) (old new : Meaning)
     → MayBeWanted aim.wanted → (r : Rule) → rule_in aim s blocks ≡ Some r → IsPlannedBy r s blocks aim.wanted p → IsCarriedOut p name work wrote n tape old new → IsEndOf wrote st bytes → length input ≤ aim.limit

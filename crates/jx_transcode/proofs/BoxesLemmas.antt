@@ -8,7 +8,8 @@ use Rattle.jx_jp2.specs.Trees.{IsTreeFault}
 use Rattle.jx_jp2.specs.declared.faults.BoxFault.{BoxFault}
 use Rattle.jx_jp2.specs.declared.faults.BoxFault.TheVariants as unboxed
 use Rattle.jx_transcode.specs.BoxesRun.{BoxesVerdict, IsListed, IsUnlisted}
-use Rattle.jx_transcode.specs.Outcome.{IsUntouched, line_of}
+use Rattle.jx_rounds.specs.Files.{IsUntouched}
+use Rattle.jx_transcode.specs.Outcome.{line_of}
 use Rattle.jx_transcode.specs.Sources.{told_of_boxes}
 use Rattle.jx_transcode.specs.declared.status.Status.{Status}
 use Rattle.jx_transcode.specs.declared.status.Status.TheVariants as status

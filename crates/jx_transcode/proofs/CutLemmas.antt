@@ -5,7 +5,7 @@ use Rattle.jx_base.specs.Joined.{joined}
 use Rattle.jx_base.proofs.Joined.{joined_next}
 use Rattle.jx_cli.specs.Words.{Text}
 use Rattle.jx_io.specs.Device.{Meaning}
-use Rattle.jx_transcode.specs.Outcome.{IsUnfinished}
+use Rattle.jx_rounds.specs.Files.{IsUnfinished}
 
 -- ---- lists under the first numbers begin those under more
 pub joined_front : {X : Type 0} (f : ℕ → List X) (m n : ℕ) → m ≤ n → (rest : List X) × (joined f 0 n ≡ joined f 0 m ++ rest)

@@ -8,14 +8,13 @@ use Rattle.jx_options.specs.Work.{Work}
 use Rattle.jx_options.specs.declared.FormChoice.{FormChoice}
 use Rattle.jx_transcode.specs.Aims.{Aim}
 use Rattle.jx_transcode.specs.Jp2Run.{EndsAround, EndsBefore, EndsJp2, LeavesAround, LeavesFile, file_in}
-use Rattle.jx_transcode.specs.MakeRun.{AreTold, TellsMade}
-use Rattle.jx_transcode.specs.Outcome.{IsBegun, IsUntouched}
+use Rattle.jx_rounds.specs.Files.{IsBegun, IsUntouched}
 use Rattle.jx_transcode.specs.declared.status.Status.{Status}
 use Rattle.jx_transcode.specs.declared.status.Status.TheVariants as status
 use Rattle.jx_rounds.specs.declared.tape.TapeEntry.{TapeEntry}
 use Rattle.jx_transcode.proofs.DoneLemmas.{undone}
 use Rattle.jx_transcode.proofs.LeftLemmas.{begun_after, made_after, untouched_twice}
-use Rattle.jx_transcode.proofs.MakeLemmas.{chosen_told, limit_told}
+use Rattle.jx_transcode.proofs.MakeLemmas.{told_late}
 use Rattle.jx_transcode.proofs.TapeLemmas.{taped_late}
 
 -- ---- after what left the files as they were
@@ -56,18 +55,6 @@ jp2_after name work kind aim input s blocks bytes tape a b c first (inr around) 
 )
 
 -- ---- where the line isn't said
-told_late : (aim : Aim) (inner : List ℕ) (s : Status) (blocks : ℕ) (out : List ℕ) → TellsMade aim inner s blocks out → AreTold aim.reduce inner blocks
-told_late aim inner status.Done blocks out is = inr (inl is.count)
-told_late aim inner status.Words blocks out is = absurd is
-told_late aim inner (status.Unlike how) blocks out is = absurd is
-told_late aim inner (status.Rule number place) blocks out is = inl is
-told_late aim inner (status.Limit number found) blocks out is = limit_told aim.reduce inner number blocks is
-told_late aim inner (status.Choice number place) blocks out is = chosen_told aim.reduce inner number blocks is
-told_late aim inner (status.Block number) blocks out is = inr (inl is)
-told_late aim inner status.ReadFault blocks out is = absurd is
-told_late aim inner status.WriteFault blocks out is = is
-told_late aim inner status.NoMemory blocks out is = is
-
 file_late : (name : Text) (file : List ℕ) (s : Status) (bytes : ℕ) (old new : Meaning) → LeavesFile name file s bytes old new → IsBegun name file old new
 file_late name file status.Done bytes old new is = inr (inr is.0)
 file_late name file status.Words bytes old new is = inl is

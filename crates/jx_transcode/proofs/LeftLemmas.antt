@@ -6,7 +6,8 @@ use Rattle.jx_cli.specs.Words.{Text}
 use Rattle.jx_transcode.specs.Aims.{Aim}
 use Rattle.jx_transcode.specs.declared.status.Status.{Status}
 use Rattle.jx_transcode.specs.declared.status.Status.TheVariants as status
-use Rattle.jx_transcode.specs.Outcome.{IsBegun, IsCutShort, IsMade, IsRefused, IsStopped, IsStoppedAt, IsStoppedByBlock, IsUnbegun, IsUnfinished, IsUntouched, Leaves, LeavesBegun}
+use Rattle.jx_rounds.specs.Files.{IsBegun, IsMade, IsStopped, IsUnfinished, IsUntouched}
+use Rattle.jx_transcode.specs.Outcome.{IsCutShort, IsRefused, IsStoppedAt, IsStoppedByBlock, IsUnbegun, Leaves, LeavesBegun}
 
 pub untouched_twice : (a b c : Meaning) → IsUntouched a b → IsUntouched b c → IsUntouched a c
 untouched_twice a b c first next = record {

@@ -7,7 +7,6 @@ mod SameVerdictLemmas
 mod SomeSameLemmas
 mod KeptSameLemmas
 mod SamplingLemmas
-mod FiledLemmas
 mod CutLemmas
 mod TapeLemmas
 mod AnswerLemmas

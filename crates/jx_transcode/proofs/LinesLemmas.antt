@@ -5,11 +5,12 @@ use Rattle.jx_io.specs.declared.refused.Refused.{Refused}
 use Rattle.jx_cli.specs.Words.{Text}
 use Rattle.jx_transcode.specs.Filed.{unread_as}
 use Rattle.jx_transcode.specs.LinesRun.{EndsInLines}
-use Rattle.jx_transcode.specs.Outcome.{EndsAs, IsUntouched, IsVerdict, line_of}
+use Rattle.jx_rounds.specs.Files.{IsUntouched}
+use Rattle.jx_transcode.specs.Outcome.{EndsAs, IsVerdict, line_of}
 use Rattle.jx_transcode.specs.declared.status.Status.{Status}
 use Rattle.jx_transcode.specs.declared.status.Status.TheVariants as status
 use Rattle.jx_transcode.proofs.DoneLemmas.{undone}
-use Rattle.jx_transcode.proofs.FiledLemmas.{untouched}
+use Rattle.jx_rounds.proofs.FiledLemmas.{untouched}
 use Rattle.jx_transcode.proofs.LeftLemmas.{told_whole, whole}
 use Rattle.jx_transcode.proofs.StatusLemmas.{unread_either}
 

@@ -13,22 +13,21 @@ use Rattle.jx_jp2.specs.Codestream.{IsJp2}
 use Rattle.jx_options.specs.Work.{MayBeWork, Work}
 use Rattle.jx_transcode.specs.Aims.{Aim}
 use Rattle.jx_transcode.specs.Filed.{IsAnswered}
-use Rattle.jx_transcode.specs.MakeRun.{AreTold, ComesOut, EndsMade, IsLastMade, IsReadyToSay, TellsMade, aim_made, input_of, make_line, wanted_made, work_made}
-use Rattle.jx_transcode.specs.Outcome.{EndsAs, IsChosen, IsCutShort, IsLimited, IsMade, Leaves, Says, line_of}
+use Rattle.jx_transcode.specs.MakeRun.{AreTold, ComesOut, EndsMade, IsReadyToSay, TellsMade, aim_made, input_of, make_line, wanted_made, work_made}
+use Rattle.jx_rounds.specs.Files.{IsMade}
+use Rattle.jx_transcode.specs.Outcome.{EndsAs, IsChosen, IsCutShort, IsLimited, Leaves, Says, line_of}
 use Rattle.jx_transcode.specs.declared.status.Status.{Status}
 use Rattle.jx_transcode.specs.declared.status.Status.TheVariants as status
 use Rattle.jx_rounds.specs.declared.tape.TapeEntry.{TapeEntry}
 use Rattle.jx_transcode.proofs.DoneLemmas.{IsOther, undone, unfailed}
 use Rattle.jx_transcode.proofs.SaidLemmas.{read_said}
 use Rattle.jx_transcode.proofs.TapeLemmas.{taped_late}
+use Rattle.jx_transcode.proofs.RefusedLemmas.{IsTold, told_unread, told_unwritten}
 
 abbrev pub Rules : Type 0
 Rules = List ℕ → StreamFacts → Option Rule
 
 -- ---- what is made in memory
-last_made : (name out : List ℕ) (new : Meaning) → IsMade name out empty new → IsLastMade name out new
-last_made name out new made = ap (λ (x : Meaning). x.written) made.2 ∙ rw made.1.written refl
-
 cut_told : (name : List ℕ) (aim : Aim) (input : List ℕ) (blocks : ℕ) (old new : Meaning) → IsCutShort name aim input blocks old new → AreTold aim.reduce input blocks
 cut_told name aim input blocks old new (inl refused) = inl refused.0
 cut_told name aim input blocks old new (inr (inl over)) = inr (inl over.count)
@@ -43,45 +42,41 @@ pub chosen_told : (d : ℕ) (input : List ℕ) (number blocks : ℕ) → IsChose
 chosen_told d input number blocks (inl few) = inr (inl few.1)
 chosen_told d input number blocks (inr all) = inr (inr all.1)
 
--- what stands after a status other than a fault's
-told_of : (name : List ℕ) (aim : Aim) (input : List ℕ) (s : Status) (blocks bytes : ℕ) (new : Meaning) → (s ≡ status.Words → ⊥) → (s ≡ status.ReadFault → ⊥) → (s ≡ status.WriteFault → ⊥)
-    → Leaves name aim input s blocks bytes empty new → AreTold aim.reduce input blocks
-told_of name aim input status.Done blocks bytes new words read write leaves = inr (inl leaves.count)
-told_of name aim input status.Words blocks bytes new words read write leaves = absurd (words refl)
-told_of name aim input (status.Unlike how) blocks bytes new words read write leaves = absurd leaves
-told_of name aim input (status.Rule number place) blocks bytes new words read write leaves = inl leaves.0
-told_of name aim input (status.Limit number found) blocks bytes new words read write leaves = limit_told aim.reduce input number blocks leaves.0
-told_of name aim input (status.Choice number place) blocks bytes new words read write (inl seven) = inr (inl seven.1.count)
-told_of name aim input (status.Choice number place) blocks bytes new words read write (inr few) = chosen_told aim.reduce input number blocks few.1
-told_of name aim input (status.Block number) blocks bytes new words read write leaves = inr (inl leaves.count)
-told_of name aim input status.ReadFault blocks bytes new words read write leaves = absurd (read refl)
-told_of name aim input status.WriteFault blocks bytes new words read write leaves = absurd (write refl)
-told_of name aim input status.NoMemory blocks bytes new words read write leaves = cut_told name aim input blocks empty new leaves
+-- what is told of an input of which nothing is made
+told_of : (name : List ℕ) (aim : Aim) (input : List ℕ) (s : Status) (blocks bytes : ℕ) (old new : Meaning) → IsTold s → IsOther s → Leaves name aim input s blocks bytes old new → TellsMade aim input s blocks []
+told_of name aim input status.Done blocks bytes old new told other leaves = absurd other
+told_of name aim input status.Words blocks bytes old new told other leaves = absurd ((told_unread status.Words told).1 refl)
+told_of name aim input (status.Unlike how) blocks bytes old new told other leaves = absurd leaves
+told_of name aim input (status.Rule number place) blocks bytes old new told other leaves = leaves.0
+told_of name aim input (status.Limit number found) blocks bytes old new told other leaves = leaves.0
+told_of name aim input (status.Choice number place) blocks bytes old new told other (inl seven) = inl ((λ e. omega (arith, seven.0, e), λ e. omega (arith, seven.0, e)), seven.1.count)
+told_of name aim input (status.Choice number place) blocks bytes old new told other (inr few) = few.1
+told_of name aim input (status.Block number) blocks bytes old new told other leaves = leaves.count
+told_of name aim input status.ReadFault blocks bytes old new told other leaves = absurd ((told_unread status.ReadFault told).0 refl)
+told_of name aim input status.WriteFault blocks bytes old new told other leaves = absurd (told_unwritten status.WriteFault told refl)
+told_of name aim input status.NoMemory blocks bytes old new told other leaves = cut_told name aim input blocks old new leaves
 
--- the output, after Done
-pub record IsOutOf (name : List ℕ) (aim : Aim) (input : List ℕ) (s : Status) (blocks bytes : ℕ) (new : Meaning) : Type 0 where
-  pub out : List ℕ
-  pub tells : TellsMade aim input s blocks out
-  pub long : s ≡ status.Done → bytes ≡ length out
-  pub made : s ≡ status.Done → IsLastMade name out new
+pub comes_unmade : (name : List ℕ) (work : Work) (aim : Aim) (input : List ℕ) (s : Status) (blocks bytes : ℕ) (entries : List TapeEntry) (old new : Meaning) → IsTold s → IsOther s → IsAnswered name work aim input s blocks bytes entries old new
+    → ComesOut work aim input s blocks [] entries
+comes_unmade name work aim input s blocks bytes entries old new told other is = record {
+  verdict = is.verdict;
+  tells = told_of name aim input s blocks bytes old new told other is.leaves;
+  tape = is.tape;
+  whole = is.whole;
+  taped = is.taped;
+}
 
-none_out : (name : List ℕ) (aim : Aim) (input : List ℕ) (s : Status) (blocks bytes : ℕ) (new : Meaning) → IsOther s → TellsMade aim input s blocks [] → IsOutOf name aim input s blocks bytes new
-none_out name aim input s blocks bytes new other tells = record { out = []; tells = tells; long = λ done. absurd (undone s other done); made = λ done. absurd (undone s other done) }
-
-pub out_of : (name : List ℕ) (aim : Aim) (input : List ℕ) (s : Status) (blocks bytes : ℕ) (new : Meaning) → (s ≡ status.Words → ⊥) → (s ≡ status.ReadFault → ⊥) → (s ≡ status.WriteFault → ⊥)
-    → Leaves name aim input s blocks bytes empty new → IsOutOf name aim input s blocks bytes new
-out_of name aim input status.Done blocks bytes new words read write leaves =
-    record { out = leaves.out; tells = record { is = leaves.is; kept = leaves.kept; count = leaves.count }; long = λ done. leaves.long; made = λ done. last_made name leaves.out new leaves.made }
-out_of name aim input status.Words blocks bytes new words read write leaves = absurd (words refl)
-out_of name aim input (status.Unlike how) blocks bytes new words read write leaves = absurd leaves
-out_of name aim input (status.Rule number place) blocks bytes new words read write leaves = none_out name aim input (status.Rule number place) blocks bytes new tt leaves.0
-out_of name aim input (status.Limit number found) blocks bytes new words read write leaves = none_out name aim input (status.Limit number found) blocks bytes new tt leaves.0
-out_of name aim input (status.Choice number place) blocks bytes new words read write (inl seven) = none_out name aim input (status.Choice number place) blocks bytes new tt (inl (omega (arith, seven.0), seven.1.count))
-out_of name aim input (status.Choice number place) blocks bytes new words read write (inr few) = none_out name aim input (status.Choice number place) blocks bytes new tt few.1
-out_of name aim input (status.Block number) blocks bytes new words read write leaves = none_out name aim input (status.Block number) blocks bytes new tt leaves.count
-out_of name aim input status.ReadFault blocks bytes new words read write leaves = absurd (read refl)
-out_of name aim input status.WriteFault blocks bytes new words read write leaves = absurd (write refl)
-out_of name aim input status.NoMemory blocks bytes new words read write leaves = none_out name aim input status.NoMemory blocks bytes new tt (cut_told name aim input blocks empty new leaves)
+pub told_late : (aim : Aim) (inner : List ℕ) (s : Status) (blocks : ℕ) (out : List ℕ) → TellsMade aim inner s blocks out → AreTold aim.reduce inner blocks
+told_late aim inner status.Done blocks out is = inr (inl is.count)
+told_late aim inner status.Words blocks out is = absurd is
+told_late aim inner (status.Unlike how) blocks out is = absurd is
+told_late aim inner (status.Rule number place) blocks out is = inl is
+told_late aim inner (status.Limit number found) blocks out is = limit_told aim.reduce inner number blocks is
+told_late aim inner (status.Choice number place) blocks out is = chosen_told aim.reduce inner number blocks is
+told_late aim inner (status.Block number) blocks out is = inr (inl is)
+told_late aim inner status.ReadFault blocks out is = absurd is
+told_late aim inner status.WriteFault blocks out is = is
+told_late aim inner status.NoMemory blocks out is = is
 
 -- there was no memory
 refused_ready : (m : Make) (rule : Rules) (before after total : ℕ) → IsReadyToSay m rule status.NoMemory 0 before after total []
@@ -154,7 +149,7 @@ made_failed m rule s late blocks before after total entries line fault_before fa
 made_failed m rule s late blocks before after total entries line fault_before fault_now old new ready (inr (inr short)) failed = absurd (unfailed (sym short.0 ∙ failed))
 
 -- no file is read
-made_unread : (m : Make) (rule : Rules) (s : Status) (blocks : ℕ) (out : List ℕ) (entries : List TapeEntry) → ComesOut m rule s blocks out entries → s ≡ status.ReadFault → ⊥
+made_unread : (m : Make) (rule : Rules) (s : Status) (blocks : ℕ) (out : List ℕ) (entries : List TapeEntry) → ComesOut work_made (aim_made rule) (input_of m) s blocks out entries → s ≡ status.ReadFault → ⊥
 made_unread m rule s blocks out entries comes read = subst (λ (x : Status). TellsMade (aim_made rule) (input_of m) x blocks out) read comes.tells
 
 pub made_read : (m : Make) (rule : Rules) (s late : Status) (blocks before after total : ℕ) (entries : List TapeEntry) (line : List ℕ) (fault_before fault_now : ℕ) (old new : Option (List ℕ))
@@ -170,25 +165,16 @@ pub work_may : (w : Work) → w ≡ work_made → MayBeWork w
 work_may w same =
     rw same (record { some_threads = omega arith; few_threads = omega arith; some_window = omega arith; few_window = omega arith; some_most = omega arith; few_most = omega arith })
 
--- an answer over files in memory, of which a write never fails
-made_ready : (name : List ℕ) (m : Make) (rule : Rules) (s : Status) (blocks before bytes total : ℕ) (entries : List TapeEntry) (new : Meaning) → IsAnswered name work_made (aim_made rule) (input_of m) s blocks bytes entries empty new
-    → before ≡ length (input_of m) → (s ≡ status.Words → ⊥) → (s ≡ status.ReadFault → ⊥) → (s ≡ status.WriteFault → ⊥)
-    → ((last out : List ℕ) → IsLastMade last out new → total ≡ sum out) → IsReadyToSay m rule s blocks before bytes total entries
-made_ready name m rule s blocks before bytes total entries new answer from words read write total_is =
-    let o : IsOutOf name (aim_made rule) (input_of m) s blocks bytes new = out_of name (aim_made rule) (input_of m) s blocks bytes new words read write answer.leaves in record {
-      out = o.out;
-      comes = record { verdict = answer.verdict; tells = o.tells; tape = answer.tape; whole = answer.whole; taped = answer.taped };
-      told = told_of name (aim_made rule) (input_of m) s blocks bytes new words read write answer.leaves;
-      unfailed = write;
-      numbers = λ done. (from, o.long done, total_is name o.out (o.made done));
-    }
-
-pub transcoded_ready : (name : List ℕ) (m : Make) (rule : Rules) (input : List ℕ) (s : Status) (blocks before bytes total : ℕ) (entries : List TapeEntry) (old new : Meaning)
-    → IsAnswered name work_made (aim_made rule) (input_of m) s blocks bytes entries old new → input ≡ input_of m → old ≡ empty → before ≡ length input
-    → (s ≡ status.ReadFault → ⊥) × (s ≡ status.Words → ⊥) → (s ≡ status.WriteFault → ⊥) → ((last out : List ℕ) → IsLastMade last out new → total ≡ sum out) → IsReadyToSay m rule s blocks before bytes total entries
-transcoded_ready name m rule input s blocks before bytes total entries old new answer h g from past write total_is =
-    let over : IsAnswered name work_made (aim_made rule) (input_of m) s blocks bytes entries empty new = subst (λ (x : Meaning). IsAnswered name work_made (aim_made rule) (input_of m) s blocks bytes entries x new) g answer in
-    made_ready name m rule s blocks before bytes total entries new over (from ∙ ap length h) past.1 past.0 write total_is
+-- what came out in memory
+pub ready_of : (m : Make) (rule : Rules) (s : Status) (blocks before after total : ℕ) (out : List ℕ) (entries : List TapeEntry) → ComesOut work_made (aim_made rule) (input_of m) s blocks out entries → (s ≡ status.WriteFault → ⊥)
+    → (s ≡ status.Done → (before ≡ length (input_of m)) × (after ≡ length out) × (total ≡ sum out)) → IsReadyToSay m rule s blocks before after total entries
+ready_of m rule s blocks before after total out entries comes write numbers = record {
+  out = out;
+  comes = comes;
+  told = told_late (aim_made rule) (input_of m) s blocks out comes.tells;
+  unfailed = write;
+  numbers = numbers;
+}
 
 -- ---- a generated codestream begins with SOC, and is no JP2 file
 pub made_bare : (m : Make) → IsJp2 (input_of m) → ⊥

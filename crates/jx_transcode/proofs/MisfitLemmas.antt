@@ -30,6 +30,10 @@ pub told_on : {X : Type 0} (P Q : X → Type 0) (o p : Option X) → IfSome p (�
 told_on P Q o None same step is = tt
 told_on P Q o (Some x) same step is = step x (subst (λ q. IfSome q P) same is)
 
+-- what follows from a fact, so that both can be rewritten at once
+pub so : {A B : Type 0} → A → (A → B) → B
+so is then = then is
+
 pub each_told : {X : Type 0} (o : Option X) → IfSome o (λ x. o ≡ Some x)
 each_told None = tt
 each_told (Some x) = refl

@@ -16,7 +16,8 @@ use Rattle.jx_transcode.specs.Jp2Run.{EndsJp2}
 use Rattle.jx_options.specs.Work.{Work}
 use Rattle.jx_options.specs.declared.FormChoice.{FormChoice}
 use Rattle.jx_rounds.specs.declared.tape.TapeEntry.{TapeEntry}
-use Rattle.jx_transcode.specs.Outcome.{IsCutShort, IsUntouched, EndsAtWords, EndsAs, line_of}
+use Rattle.jx_rounds.specs.Files.{IsUntouched}
+use Rattle.jx_transcode.specs.Outcome.{IsCutShort, EndsAtWords, EndsAs, line_of}
 use Rattle.jx_transcode.specs.TranscodeRun.{Ends, EndsOn, aim_of}
 use Rattle.jx_transcode.proofs.DoneLemmas.{undone}
 use Rattle.jx_transcode.proofs.Jp2Lemmas.{jp2_after, jp2_late}

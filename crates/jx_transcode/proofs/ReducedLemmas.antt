@@ -22,7 +22,7 @@ use Rattle.jx_transcode.specs.Rewritten.{HasBlocks, IsIrreducible, Reads, ReadsL
 use Rattle.jx_transcode.specs.declared.status.Status.{Status}
 use Rattle.jx_transcode.specs.declared.status.Status.TheVariants as status
 use Rattle.jx_transcode.proofs.DoneLemmas.{undone}
-use Rattle.jx_transcode.proofs.FiledLemmas.{untouched}
+use Rattle.jx_rounds.proofs.FiledLemmas.{untouched}
 use Rattle.jx_transcode.proofs.RefusedLemmas.{IsTold, no_plan, told_unread, told_unwritten}
 
 -- what the laws of the crates below say of what is read, and of leaving out nothing
@@ -103,7 +103,7 @@ answered_unreduced laws name work aim input s blocks (unreduced.Choice number pl
 answered_unreduced laws name work aim input s blocks unreduced.NoMemory n mm cause count within short reads = no_plan name work aim input mm
 
 -- ---- what is told of it is no fault of a device, and doesn't speak of the words
-all_is_told : (e : ReduceFault) → IsTold (told_of_all e)
+pub all_is_told : (e : ReduceFault) → IsTold (told_of_all e)
 unfolding IsTold
 all_is_told (unreduced.Choice number place) = tt
 all_is_told unreduced.NoMemory = tt

@@ -29,7 +29,7 @@ use Rattle.jx_cli.specs.Words.{Text}
 use Rattle.jx_options.specs.Work.{Work}
 use Rattle.jx_transcode.proofs.DoneLemmas.{undone}
 use Rattle.jx_transcode.proofs.ToldLemmas.{stop_told}
-use Rattle.jx_transcode.proofs.FiledLemmas.{untouched}
+use Rattle.jx_rounds.proofs.FiledLemmas.{untouched}
 
 -- ---- nothing was made
 refused_short : (name : Text) (aim : Aim) (input : List ℕ) (mm : Meaning) → IsCutShort name aim input 0 mm mm
@@ -201,13 +201,37 @@ IsTold status.ReadFault = ⊥
 IsTold status.WriteFault = ⊥
 IsTold status.NoMemory = Unit {0}
 
+pub done_told : IsTold status.Done
+unfolding IsTold
+done_told = tt
+
+pub block_told : (number : ℕ) → IsTold (status.Block number)
+unfolding IsTold
+block_told number = tt
+
+pub choice_told : (number place : ℕ) → IsTold (status.Choice number place)
+unfolding IsTold
+choice_told number place = tt
+
+pub rule_told : (number place : ℕ) → IsTold (status.Rule number place)
+unfolding IsTold
+rule_told number place = tt
+
+pub limit_told : (number found : ℕ) → IsTold (status.Limit number found)
+unfolding IsTold
+limit_told number found = tt
+
+pub memory_told : IsTold status.NoMemory
+unfolding IsTold
+memory_told = tt
+
 input_told : (f : StreamFault) → IsTold (told_by f)
 unfolding IsTold
 input_told (fault.Rule number place) = tt
 input_told (fault.Limit number found) = tt
 input_told fault.NoMemory = tt
 
-plan_told : (e : PlanFault) → IsTold (told_of_plan e)
+pub plan_told : (e : PlanFault) → IsTold (told_of_plan e)
 unfolding IsTold
 plan_told (unplanned.Limit number found) = tt
 plan_told (unplanned.Choice number place) = tt

@@ -29,7 +29,7 @@ use Rattle.jx_transcode.proofs.LinesLemmas.{lines_short}
 use Rattle.jx_transcode.proofs.MakeLemmas.{made_short}
 use Rattle.jx_transcode.proofs.SameLemmas.{compared_short}
 use Rattle.jx_transcode.proofs.OutcomeLemmas.{ends_said, ends_unread, unread_said}
-use Rattle.jx_transcode.proofs.FiledLemmas.{untouched}
+use Rattle.jx_rounds.proofs.FiledLemmas.{untouched}
 
 -- ---- words that are good for one command alone
 pub outcome_transcode : (words : List Text) (request : Request) (rule : List ℕ → StreamFacts → Option Rule) (s : Status) (blocks : ℕ) (entries : List TapeEntry) (old new : Meaning) (before now : Option (List ℕ))

@@ -9,13 +9,14 @@ use Rattle.jx_plan.specs.Meaning.{meaning_of}
 use Rattle.jx_same.specs.Items.{answer_of}
 use Rattle.jx_same.specs.declared.answer.Answer.{Answer}
 use Rattle.jx_same.specs.declared.answer.Answer.TheVariants as answer
-use Rattle.jx_transcode.specs.Outcome.{EndsAs, EndsAsReadFault, IsUntouched, IsVerdict, line_of}
+use Rattle.jx_rounds.specs.Files.{IsUntouched}
+use Rattle.jx_transcode.specs.Outcome.{EndsAs, EndsAsReadFault, IsVerdict, line_of}
 use Rattle.jx_transcode.specs.SameRun.{EndsCompared, IsOfFirst, IsSecondTold, IsToTell, SameVerdict, SecondVerdict, TellsBlocks, answer_status, blocks_after, same_line, second_status}
 use Rattle.jx_transcode.specs.Sources.{IsAccepted, IsUnfit}
 use Rattle.jx_transcode.specs.declared.status.Status.{Status}
 use Rattle.jx_transcode.specs.declared.status.Status.TheVariants as status
 use Rattle.jx_transcode.specs.declared.status.Unlike.TheVariants as unlike
-use Rattle.jx_transcode.proofs.FiledLemmas.{untouched}
+use Rattle.jx_rounds.proofs.FiledLemmas.{untouched}
 use Rattle.jx_transcode.proofs.LeftLemmas.{IsFront, long_whole, short_told, told_whole, untouched_twice, whole}
 use Rattle.jx_transcode.proofs.SaidLemmas.{unread_said}
 

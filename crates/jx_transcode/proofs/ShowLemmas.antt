@@ -7,7 +7,8 @@ use Rattle.jx_codestream.specs.declared.Stream.{Stream}
 use Rattle.jx_jp2.specs.Names.{brand_of, brand_text}
 use Rattle.jx_show.specs.Facts.{facts_of}
 use Rattle.jx_show.specs.File.{file_text}
-use Rattle.jx_transcode.specs.Outcome.{IsUntouched, IsVerdict, line_of}
+use Rattle.jx_rounds.specs.Files.{IsUntouched}
+use Rattle.jx_transcode.specs.Outcome.{IsVerdict, line_of}
 use Rattle.jx_transcode.specs.Sources.{IsAccepted, IsUnfit}
 use Rattle.jx_transcode.specs.ShowRun.{HasBoxes, IsShown, ShowVerdict}
 use Rattle.jx_transcode.specs.declared.status.Status.{Status}

@@ -1,70 +1,37 @@
--- What a whole file, or one that was halted, leaves under a name.
-use Rattle.std.specs.Prelude.{◌≡◌, ◌⊎◌, ◌+◌, ℕ, true, List, [], length, Result, Ok, Err}
+-- What becomes of an input, and of its plan by where it is written; and the statuses of what was refused.
+use Rattle.std.specs.Prelude.{◌≡◌, ◌⊎◌, ◌+◌, ℕ, List, [], length, Option, Result, Ok, Err, IfErr, IfOk, IfSome, OnOk}
+use Rattle.jx_base.specs.declared.pieces.Block.{Block}
 use Rattle.jx_io.specs.Device.{Meaning}
 use Rattle.jx_io.specs.declared.refused.Refused.{Refused}
 use Rattle.jx_io.specs.declared.refused.Refused.TheVariants as refused
-use Rattle.jx_transcode.specs.Aims.{Aim}
+use Rattle.jx_codestream.specs.declared.Stream.{Stream}
+use Rattle.jx_codestream.specs.declared.faults.StreamFault.{StreamFault}
+use Rattle.jx_codestream.specs.declared.faults.StreamFault.TheVariants as fault
+use Rattle.jx_layers.specs.Rule.{Rule}
+use Rattle.jx_options.specs.Wanted.{Wanted}
+use Rattle.jx_options.specs.Work.{Work}
 use Rattle.jx_plan.specs.declared.faults.PlanFault.{PlanFault}
 use Rattle.jx_plan.specs.declared.faults.PlanFault.TheVariants as unplanned
-use Rattle.jx_plan.specs.Plan.{Plan}
-use Rattle.jx_transcode.specs.Outcome.{IsCutShort, IsMade, IsStopped, IsUnfinished, IsUntouched, IsVerdict, Leaves, Verdict}
-use Rattle.jx_rounds.specs.Heads.{IsHead}
-use Rattle.jx_rounds.specs.Rounds.{IsHaltedAt, IsRoundFront, IsSpoiledTile, IsWholeFile}
-use Rattle.jx_cli.specs.Words.{Text}
-use Rattle.jx_options.specs.Work.{Work}
-use Rattle.jx_rounds.specs.declared.tape.TapeEntry.{TapeEntry}
-use Rattle.jx_transcode.specs.Rewritten.{HasBlocks}
-use Rattle.jx_transcode.specs.RunTapes.{IsRunTape, IsTapedAfter}
-use Rattle.jx_rounds.specs.declared.halt.Halt.{Halt}
-use Rattle.jx_rounds.specs.declared.halt.Halt.TheVariants as halt
-use Rattle.jx_transcode.specs.declared.status.Status.{Status}
-use Rattle.jx_transcode.specs.declared.status.Status.TheVariants as status
-use Rattle.jx_codestream.specs.declared.faults.StreamFault.{StreamFault}
+use Rattle.jx_plan.specs.Plan.{IsPlan, Plan}
+use Rattle.jx_plan.specs.Planned.{HasPlanCause}
 use Rattle.jx_reduce.specs.declared.faults.ReduceFault.{ReduceFault}
 use Rattle.jx_reduce.specs.declared.faults.ReduceFault.TheVariants as unreduced
-use Rattle.jx_codestream.specs.declared.faults.StreamFault.TheVariants as fault
-
-pub record IsFileMade (p : Plan) (name : Text) (count : ℕ) (old new : Meaning) : Type 0 where
-  pub head : List ℕ
-  pub is : IsHead p head
-  pub bytes : List ℕ
-  pub whole : IsWholeFile p head bytes
-  pub made : IsMade name bytes old new
-  pub count_is : count ≡ length bytes
-
-pub record IsFileCut (p : Plan) (name : Text) (old new : Meaning) : Type 0 where
-  pub head : List ℕ
-  pub is : IsHead p head
-  pub bytes : List ℕ
-  pub of : IsRoundFront p head bytes ⊎ IsWholeFile p head bytes
-  pub begun : IsUnfinished name bytes old new
-
--- nothing was created, or a front was written
-abbrev pub IsFileBegun : Plan → Text → Meaning → Meaning → Type 0
-IsFileBegun p name old new = IsUntouched old new ⊎ IsFileCut p name old new
-
--- a tile isn't written: the rounds before its own were
-pub record IsFileStopped (p : Plan) (name : Text) (why : Halt) (tile : ℕ) (old new : Meaning) : Type 0 where
-  pub head : List ℕ
-  pub head_is : IsHead p head
-  pub bytes : List ℕ
-  pub is : IsHaltedAt p head why tile bytes
-  pub stopped : IsStopped name bytes old new
-
--- and nothing was created where the index is asked, since the lengths of all tile-parts are found before that
-pub record IsFileUnbegun (p : Plan) (why : Halt) (tile : ℕ) (old new : Meaning) : Type 0 where
-  pub asked : p.wanted.marks.tlm ≡ true
-  pub of : IsSpoiledTile p why tile
-  pub same : IsUntouched old new
-
-abbrev pub IsFileSpoiled : Plan → Text → Halt → ℕ → Meaning → Meaning → Type 0
-IsFileSpoiled p name why tile old new = IsFileStopped p name why tile old new ⊎ IsFileUnbegun p why tile old new
-
-abbrev pub IsFileHalted : Plan → Text → Halt → Meaning → Meaning → Type 0
-IsFileHalted p name (halt.Bad tile number) old new = IsFileSpoiled p name (halt.Bad tile number) tile old new
-IsFileHalted p name (halt.TooLong tile) old new = IsFileSpoiled p name (halt.TooLong tile) tile old new
-IsFileHalted p name halt.Failed old new = IsFileBegun p name old new
-IsFileHalted p name halt.NoMemory old new = IsFileBegun p name old new
+use Rattle.jx_cli.specs.Words.{Text}
+use Rattle.jx_rounds.specs.Files.{IsFileHalted, IsFileMade}
+use Rattle.jx_rounds.specs.Heads.{IsCodestreamOf, IsUnmeasured}
+use Rattle.jx_rounds.specs.Rounds.{IsTapedTo}
+use Rattle.jx_rounds.specs.Tapes.{IsTapeOf}
+use Rattle.jx_rounds.specs.declared.halt.Halt.{Halt}
+use Rattle.jx_rounds.specs.declared.halt.Halt.TheVariants as halt
+use Rattle.jx_rounds.specs.declared.tape.TapeEntry.{TapeEntry}
+use Rattle.jx_transcode.specs.Aims.{Aim}
+use Rattle.jx_transcode.specs.Misfits.{IsMisfitBy}
+use Rattle.jx_transcode.specs.Outcome.{IsCutShort, IsVerdict, Leaves, Verdict}
+use Rattle.jx_transcode.specs.Rewritten.{HasBlocks}
+use Rattle.jx_transcode.specs.RunTapes.{IsRunTape, IsTapedAfter}
+use Rattle.jx_transcode.specs.declared.rewrite.Ending.{Ending}
+use Rattle.jx_transcode.specs.declared.status.Status.{Status}
+use Rattle.jx_transcode.specs.declared.status.Status.TheVariants as status
 
 -- what becomes of an input whose bytes were read
 pub record IsAnswered (name : Text) (work : Work) (aim : Aim) (input : List ℕ) (s : Status) (blocks bytes : ℕ) (entries : List TapeEntry) (old new : Meaning) : Type 0 where
@@ -83,6 +50,16 @@ pub record IsTooLong (limit : ℕ) (s : Status) (blocks bytes : ℕ) (entries : 
   pub tape : entries ≡ []
   pub same : new ≡ old
 
+-- a plan was written to a file of this name, with so many bytes, or its writing ended before
+pub record IsCarriedOut (p : Plan) (name : Text) (work : Work) (written : Result ℕ Halt) (blocks : ℕ) (entries : List TapeEntry) (old new : Meaning) : Type 0 where
+  pub plan : IsPlan p
+  pub count : blocks ≡ length p.blocks
+  pub tape : IsTapeOf work p.blocks entries
+  pub whole : OnOk written (length entries ≡ length p.blocks)
+  pub taped : IfErr written (λ why. IsTapedTo p why (length entries))
+  pub ok : IfOk written (λ count. IsFileMade p name count old new)
+  pub err : IfErr written (λ why. IsFileHalted p name why old new)
+
 -- the status of a file that wasn't written to its end
 abbrev pub status_of : Halt → Status
 status_of (halt.Bad tile number) = status.Block number
@@ -94,6 +71,25 @@ status_of halt.NoMemory = status.NoMemory
 abbrev pub IsEndOf : Result ℕ Halt → Status → ℕ → Type 0
 IsEndOf (Ok count) s bytes = (s ≡ status.Done) × (bytes ≡ count)
 IsEndOf (Err why) s bytes = (s ≡ status_of why) × (bytes ≡ 0)
+
+-- a plan was written to a file, and how a run ends then
+pub record IsCarriedTo (p : Plan) (name : Text) (work : Work) (s : Status) (blocks bytes : ℕ) (entries : List TapeEntry) (old new : Meaning) : Type 0 where
+  pub written : Result ℕ Halt
+  pub is : IsCarriedOut p name work written blocks entries old new
+  pub ends : IsEndOf written s bytes
+
+-- a plan was written to memory, or why it wasn't; so many entries were taped
+abbrev pub IsEndIn : Plan → Status → List ℕ → ℕ → Type 0
+IsEndIn p s out entries =
+    ((s ≡ status.Done) × IsCodestreamOf p out × (entries ≡ length p.blocks))
+    ⊎ ((why : Halt) × (s ≡ status_of why) × IsUnmeasured p why × IsTapedTo p why entries)
+
+-- a plan was written to memory, and how a run ends then
+pub record IsCarriedIn (p : Plan) (work : Work) (s : Status) (blocks : ℕ) (out : List ℕ) (entries : List TapeEntry) : Type 0 where
+  pub plan : IsPlan p
+  pub count : blocks ≡ length p.blocks
+  pub tape : IsTapeOf work p.blocks entries
+  pub ends : IsEndIn p s out (length entries)
 
 -- the status of an input that couldn't be read
 abbrev pub unread_as : Refused → Status
@@ -121,6 +117,16 @@ abbrev pub blocks_told : PlanFault → ℕ → ℕ
 blocks_told (unplanned.Limit number found) blocks = blocks
 blocks_told (unplanned.Choice number place) blocks = blocks
 blocks_told unplanned.NoMemory blocks = 0
+
+-- how a run ends on a stream that isn't planned by a rule
+pub record IsUnplannedEnd (rule : Option Rule) (s : Stream) (blocks : List Block) (w : Wanted) (ending : Ending) : Type 0 where
+  pub why : PlanFault
+  pub cause : HasPlanCause rule s blocks w why
+  pub status_is : ending.status ≡ told_of_plan why
+  pub count_is : ending.blocks ≡ blocks_told why (length blocks)
+  pub none : ending.bytes ≡ 0
+  pub tape : ending.tape.items ≡ []
+  pub misfit : IfSome ending.misfit (λ misfit. IsMisfitBy w.precincts s why misfit)
 
 -- and of an input out of which so many resolutions can't be left, with the blocks that are told
 abbrev pub told_of_all : ReduceFault → Status

@@ -11,8 +11,11 @@ use Rattle.jx_options.specs.Work.{Work}
 use Rattle.jx_options.specs.declared.FormChoice.{FormChoice}
 use Rattle.jx_options.specs.declared.FormChoice.TheVariants as form
 use Rattle.jx_transcode.specs.Aims.{Aim}
+use Rattle.jx_plan.specs.Plan.{Plan}
+use Rattle.jx_transcode.specs.Filed.{IsCarriedIn}
 use Rattle.jx_transcode.specs.MakeRun.{TellsMade}
-use Rattle.jx_transcode.specs.Outcome.{IsBegun, IsMade, IsUntouched, IsVerdict, Verdict}
+use Rattle.jx_rounds.specs.Files.{IsBegun, IsMade, IsUntouched}
+use Rattle.jx_transcode.specs.Outcome.{IsVerdict, Verdict}
 use Rattle.jx_transcode.specs.Rewritten.{HasBlocks, IsRewritten}
 use Rattle.jx_transcode.specs.RunTapes.{IsRunTape, IsTapedAfter}
 use Rattle.jx_transcode.specs.declared.status.Status.{Status}
@@ -139,3 +142,11 @@ raised from status.NoMemory = status.NoMemory
 -- how a whole file is written, or isn't to its end
 abbrev pub IsFileEnd : Status → Type 0
 IsFileEnd s = (s ≡ status.Done) ⊎ ((s ≡ status.WriteFault) ⊎ (s ≡ status.NoMemory))
+
+-- a plan was written to memory, and then its file around it; or it wasn't, and nothing was made
+pub record IsCarriedAround (p : Plan) (name : Text) (work : Work) (kind : FormChoice) (input : List ℕ) (boxed : Boxed) (s : Status) (blocks bytes : ℕ) (entries : List TapeEntry) (old new : Meaning) : Type 0 where
+  pub inner : Status
+  pub out : List ℕ
+  pub is : IsCarriedIn p work inner blocks out entries
+  pub ends : ((inner ≡ status.Done → ⊥) × (s ≡ inner) × (bytes ≡ 0) × (new ≡ old))
+      ⊎ ((inner ≡ status.Done) × IsFileEnd s × LeavesFile name (file_in kind input boxed out) s bytes old new)

@@ -2,7 +2,8 @@
 use Rattle.std.specs.Prelude.{◌≡◌, ℕ, List, [], Option, IfSome}
 use Rattle.jx_io.specs.Device.{Meaning, joined}
 use Rattle.jx_cli.specs.Words.{Text}
-use Rattle.jx_transcode.specs.Outcome.{IsUntouched, IsVerdict, Says, line_of}
+use Rattle.jx_rounds.specs.Files.{IsUntouched}
+use Rattle.jx_transcode.specs.Outcome.{IsVerdict, Says, line_of}
 use Rattle.jx_transcode.specs.declared.status.Status.{Status}
 use Rattle.jx_transcode.specs.declared.status.Status.TheVariants as status
 use Rattle.jx_rounds.specs.declared.tape.TapeEntry.{TapeEntry}

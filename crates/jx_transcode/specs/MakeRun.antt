@@ -84,34 +84,30 @@ TellsMade aim input status.ReadFault blocks out = ⊥
 TellsMade aim input status.WriteFault blocks out = AreTold aim.reduce input blocks
 TellsMade aim input status.NoMemory blocks out = AreTold aim.reduce input blocks
 
--- how a run comes out, beside what is said and `out`, the output after Done
-pub record ComesOut (m : Make) (rule : List ℕ → StreamFacts → Option Rule) (s : Status) (blocks : ℕ) (out : List ℕ) (entries : List TapeEntry) : Type 0 where
-  pub verdict : IsVerdict s → Verdict (aim_made rule) (input_of m) s
-  pub tells : TellsMade (aim_made rule) (input_of m) s blocks out
+-- what becomes of a codestream whose output `out` is made in memory
+pub record ComesOut (work : Work) (aim : Aim) (input : List ℕ) (s : Status) (blocks : ℕ) (out : List ℕ) (entries : List TapeEntry) : Type 0 where
+  pub verdict : IsVerdict s → Verdict aim input s
+  pub tells : TellsMade aim input s blocks out
   -- the tape has the entries of the first blocks, in their order, each once, by workers and inside windows that are asked for
-  pub tape : IsRunTape work_made 0 (input_of m) entries
+  pub tape : IsRunTape work aim.reduce input entries
   -- and those of all blocks after Done
-  pub whole : s ≡ status.Done → HasBlocks 0 (input_of m) (length entries)
+  pub whole : s ≡ status.Done → HasBlocks aim.reduce input (length entries)
   -- and how many after each status
-  pub taped : IsTapedAfter 0 (input_of m) s (length entries)
+  pub taped : IsTapedAfter aim.reduce input s (length entries)
 
 -- how a run over good words of `make` ends: no file is touched
 pub record EndsMade (m : Make) (rule : List ℕ → StreamFacts → Option Rule) (s : Status) (blocks : ℕ) (entries : List TapeEntry) (old new : Meaning) (before now : Option (List ℕ)) : Type 0 where
   pub files : new ≡ old
   pub out : List ℕ
-  pub comes : ComesOut m rule s blocks out entries
+  pub comes : ComesOut work_made (aim_made rule) (input_of m) s blocks out entries
   pub said : Says s (make_line s blocks (length (input_of m)) (length out) (sum out)) before now
 
 -- ---- inner: what is known before the line is said
 
--- the file that was created last
-abbrev pub IsLastMade : List ℕ → List ℕ → Meaning → Type 0
-IsLastMade name bytes m = m.written ≡ Some (Some (record { name = name; bytes = bytes }))
-
 -- the numbers that the line has after Done, and the blocks that are told where it isn't said
 pub record IsReadyToSay (m : Make) (rule : List ℕ → StreamFacts → Option Rule) (s : Status) (blocks before after total : ℕ) (entries : List TapeEntry) : Type 0 where
   pub out : List ℕ
-  pub comes : ComesOut m rule s blocks out entries
+  pub comes : ComesOut work_made (aim_made rule) (input_of m) s blocks out entries
   pub told : AreTold 0 (input_of m) blocks
   pub unfailed : s ≡ status.WriteFault → ⊥
   pub numbers : s ≡ status.Done → (before ≡ length (input_of m)) × (after ≡ length out) × (total ≡ sum out)

@@ -3,15 +3,15 @@ use Rattle.std.specs.Prelude.{◌≡◌, ◌⊎◌, ℕ, true, ◌+◌, ◌<◌,
 use Rattle.std.specs.Option.{option_map}
 use Rattle.std.specs.Fmt.{decimal}
 use Rattle.jx_io.specs.Causes.{Rose}
-use Rattle.jx_io.specs.Device.{Meaning, after_create, after_write, after_finish}
+use Rattle.jx_io.specs.Device.{Meaning}
 use Rattle.jx_transcode.specs.SameLines.{unlike_line, unlike_number}
 use Rattle.jx_transcode.specs.declared.status.Status.{Status}
 use Rattle.jx_cli.specs.Words.{Text}
+use Rattle.jx_rounds.specs.Files.{IsMade, IsStopped, IsUnfinished, IsUntouched}
 use Rattle.jx_rounds.specs.declared.tape.TapeEntry.{TapeEntry}
 use Rattle.jx_transcode.specs.Rewritten.{HasBlocks, IsBad, IsCut, IsCutByBlock, IsFrontOf, IsIrreducible, IsKept, IsRewritten, IsTooLongAt, IsUnplanned}
 use Rattle.jx_plan.specs.declared.faults.PlanFault.{PlanFault}
 use Rattle.jx_transcode.specs.Aims.{Aim}
-use Rattle.jx_transcode.specs.Progress.{HasWritten}
 use Rattle.jx_transcode.specs.Judged.{Violates, Passes}
 use Rattle.jx_transcode.specs.declared.status.Status.TheVariants as status
 use Rattle.jx_plan.specs.declared.faults.PlanFault.TheVariants as unplanned
@@ -93,32 +93,6 @@ Says (status.Limit number found) line old new = new ≡ said_after line old
 Says (status.Choice number place) line old new = new ≡ said_after line old
 Says (status.Block number) line old new = new ≡ said_after line old
 Says status.ReadFault line old new = new ≡ said_after line old
-
--- nothing was made
-pub record IsUntouched (old new : Meaning) : Type 0 where
-  pub holds : (name : List ℕ) → new.holds name ≡ old.holds name
-  pub making : new.making ≡ old.making
-  pub written : new.written ≡ old.written
-
--- the whole file was made, and is found under its name
-abbrev pub IsMade : Text → List ℕ → Meaning → Meaning → Type 0
-IsMade name bytes old new = (m : Meaning) × IsUntouched old m × (new ≡ after_finish (after_write bytes (after_create name m)))
-
--- a front of the file was made, and it wasn't finished
-abbrev pub IsPartlyMade : Text → List ℕ → Meaning → Meaning → Type 0
-IsPartlyMade name bytes old new = (m : Meaning) × (rest : List ℕ) × IsUntouched old m × HasWritten (after_create name m) new bytes rest
-
--- just these bytes of the file were made, and it wasn't finished
-abbrev pub IsStopped : Text → List ℕ → Meaning → Meaning → Type 0
-IsStopped name bytes old new = (m : Meaning) × IsUntouched old m × (new ≡ after_write bytes (after_create name m))
-
--- nothing of the file was made, or a front of it that wasn't finished
-abbrev pub IsUnfinished : Text → List ℕ → Meaning → Meaning → Type 0
-IsUnfinished name bytes old new = IsUntouched old new ⊎ IsPartlyMade name bytes old new
-
--- nothing of the file, a front or all of it was made
-abbrev pub IsBegun : Text → List ℕ → Meaning → Meaning → Type 0
-IsBegun name bytes old new = IsUntouched old new ⊎ (IsPartlyMade name bytes old new ⊎ IsMade name bytes old new)
 
 -- what stands of an output: nothing; a front of the whole file, or of whole rounds where no index is asked, that wasn't finished; or, under its
 -- name, the whole file and nothing less

@@ -14,7 +14,8 @@ use Rattle.jx_same.specs.declared.answer.Answer.{Answer}
 use Rattle.jx_same.specs.declared.answer.Answer.TheVariants as answer
 use Rattle.jx_same.specs.declared.answer.Difference.{Difference}
 use Rattle.jx_same.specs.declared.answer.Field.TheVariants as field
-use Rattle.jx_transcode.specs.Outcome.{IsUntouched, IsVerdict, Says, line_of}
+use Rattle.jx_rounds.specs.Files.{IsUntouched}
+use Rattle.jx_transcode.specs.Outcome.{IsVerdict, Says, line_of}
 use Rattle.jx_transcode.specs.Progress.{HasRead}
 use Rattle.jx_transcode.specs.Sources.{BreaksLimit, BreaksRule, IsAccepted, IsGoodInput}
 use Rattle.jx_transcode.specs.declared.status.Status.{Status}

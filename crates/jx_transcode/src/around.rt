@@ -1,30 +1,23 @@
-//! What becomes of a JP2 file: its codestream is rewritten in memory, and the file is written around it (ITU-T T.800, Annex I).
+//! A plan that is written around: in the place of the codestream of a JP2 file (ITU-T T.800, Annex I).
 
-ghost use Rattle.std.specs.Prelude.{◌≡◌, ◌≤◌, ◌<◌, ◌^◌, ℕ, List, length, map, IfErr, IfOk, IfSome, IsErrOf, None, OnErr, OnOk};
+ghost use Rattle.std.specs.Prelude.{◌≡◌, ◌≤◌, ◌<◌, ◌^◌, length, map, IfErr, IfOk, IsErrOf, None, OnErr, OnOk};
 ghost use Rattle.std.specs.List.{concat};
 ghost use Rattle.jx_base.specs.Limits.{most_bytes};
 ghost use Rattle.jx_io.specs.Causes.{Rose};
-ghost use Rattle.jx_jp2.specs.Codestream.{IsCodestream, content};
+ghost use Rattle.jx_jp2.specs.Codestream.{IsCodestream};
 ghost use Rattle.jx_options.specs.Work.{MayBeWork};
-ghost use Rattle.jx_plan.specs.Plan.{MayBePlanned};
-ghost use Rattle.jx_plan.specs.Planned.{chosen};
+ghost use Rattle.jx_plan.specs.Plan.{IsPlan};
+ghost use Rattle.jx_rounds.specs.Files.{IsBegun, IsMade};
 ghost use Rattle.jx_rounds.specs.Taken.{SomeFront, followed_by};
-ghost use Rattle.jx_transcode.specs.Aims.{MayBeTask, aim_by};
 ghost use Rattle.jx_transcode.specs.Filed.{unwritten_as};
-ghost use Rattle.jx_transcode.specs.Jp2Run.{EndsAround, file_in};
-ghost use Rattle.jx_transcode.specs.MakeRun.{IsLastMade};
-ghost use Rattle.jx_transcode.specs.Misfits.{IsMisfitOf};
-ghost use Rattle.jx_transcode.specs.Outcome.{IsBegun, IsMade};
-ghost use Rattle.jx_transcode.specs.Rewritten.{ReadsLeft};
+ghost use Rattle.jx_transcode.specs.Jp2Run.{IsCarriedAround, file_in};
 
 use crate::Status;
-use crate::judge::Picture;
-use crate::rewrite::{Ending, rewrite};
-use crate::task::Task;
-use jx_io::{Files, Gate, Refused, SureFiles};
+use crate::rewrite::{Ending, made_in_memory};
+use jx_io::{Files, Gate, Refused};
 use jx_jp2::{Boxed, around, head_for};
-use jx_layers::LayerPlanner;
 use jx_options::FormChoice;
+use jx_plan::OutStream;
 use jx_rounds::{ByteWriter, Crew, TapeEntry};
 use std::alloc::Global;
 use std::sync::Wait;
@@ -143,53 +136,43 @@ fn written_as(written: Result<usize, Refused>, blocks: u32, tape: Vec<TapeEntry>
     }
 }
 
-/// The bytes of the file that was created last.
-fn bytes_made(files: &SureFiles) -> &[u8]
-    ensures { (name bytes : List ℕ) → IsLastMade name bytes (⟦<SureFiles as Files>⟧.meaning files.now) → result.now ≡ bytes }
-{
-    match files.made() {
-        Some((_, bytes)) => bytes,
-        None => &[],
-    }
-}
-
-/// What becomes of a JP2 file with this codestream: `picture` is what is left of it.
-pub fn rewrite_around<R: Threads + Wait + Sync, G: Gate + Sync, F: Files>(
+/// A plan that is written in the place of the codestream of a JP2 file, or alone, as is asked. It is written to memory first, since the head of
+/// its box tells how long it is.
+pub fn write_around<R: Threads + Wait + Sync, G: Gate + Sync, F: Files>(
     crew: &Crew<'_, R, G>,
     alloc: Global,
     files: &mut F,
     to: &str,
+    form: FormChoice,
     file: &[u8],
     boxed: &Boxed,
-    picture: &Picture<'_>,
-    task: &Task<'_>,
-    planners: &mut [Box<dyn LayerPlanner>],
+    plan: &OutStream<'_>,
 ) -> Ending
     requires creates { F.can_create files.old to.now }
-    requires within { length file.now ≤ task.now.limit }
+    requires within { length file.now ≤ most_bytes }
     requires found { IsCodestream file.now boxed.now }
-    requires left { ReadsLeft task.now.reduce (content file.now boxed.now) picture.now.stream picture.now.blocks.items }
-    requires may { MayBePlanned picture.now.stream picture.now.blocks.items }
-    requires task { MayBeTask task.now }
+    requires plan { IsPlan plan.now }
     requires work { MayBeWork crew.now.work }
-    ensures answer { EndsAround to.now crew.now.work task.now.form
-        (aim_by task.now (λ text facts. chosen (λ b. serves_text b text) (λ b. rule_of b text facts) planners.old))
-        file.now boxed.now result.status result.blocks result.bytes result.tape.items (F.meaning files.old) (F.meaning files.new) }
+    ensures carried { IsCarriedAround plan.now to.now crew.now.work form file.now boxed.now
+        result.status result.blocks result.bytes result.tape.items (F.meaning files.old) (F.meaning files.new) }
     ensures cause { result.status ≡ Status.WriteFault → Rose (F.write_faults files.old) (F.write_faults files.new) }
     ensures rose { F.write_faults files.old < F.write_faults files.new → result.status ≡ Status.WriteFault }
     ensures read { (result.status ≡ Status.ReadFault → ⊥) × (result.status ≡ Status.Words → ⊥) }
     ensures other { F.read_faults files.new ≡ F.read_faults files.old }
-    ensures misfit { IfSome result.misfit (λ misfit.
-        IsMisfitOf task.now.options.now.precincts task.now.reduce task.now.limit (content file.now boxed.now) result.status misfit) }
+    ensures misfit { result.misfit ≡ None }
 {
-    let mut made = SureFiles::new(alloc);
-    let ending = rewrite(crew, alloc, &mut made, "", picture, task, planners);
-    match ending.status {
+    let made = made_in_memory(crew, alloc, plan);
+    match made.status {
         Status::Done => {
-            let out = bytes_made(&made);
-            let written = write_form(files, to, task.form, file, boxed, out);
-            written_as(written, ending.blocks, ending.tape)
+            let written = write_form(files, to, form, file, boxed, &made.out);
+            written_as(written, made.blocks, made.tape)
         }
-        _ => Ending { bytes: 0, ..ending },
+        status => Ending {
+            status,
+            blocks: made.blocks,
+            bytes: 0,
+            tape: made.tape,
+            misfit: None,
+        },
     }
 }

@@ -4,7 +4,7 @@ ghost use Rattle.std.specs.Prelude.{◌≡◌, ◌+◌, take, IfOk, IfSome, OnOk
 ghost use Rattle.jx_io.specs.Causes.{HasCause};
 ghost use Rattle.jx_io.specs.Device.{Allows, IsThere, joined};
 ghost use Rattle.jx_transcode.specs.Filed.{unread_as};
-ghost use Rattle.jx_transcode.specs.Outcome.{IsUntouched};
+ghost use Rattle.jx_rounds.specs.Files.{IsUntouched};
 ghost use Rattle.jx_transcode.specs.Progress.{HasRead};
 
 use crate::Status;

@@ -6,7 +6,10 @@ ghost use Rattle.jx_codestream.specs.declared.Stream.{Stream};
 ghost use Rattle.jx_layers.specs.declared.StreamFacts.{StreamFacts};
 ghost use Rattle.jx_layers.specs.Rule.{Rule};
 ghost use Rattle.jx_marker.specs.Ranges.{AreBytes};
-ghost use Rattle.jx_transcode.specs.Aims.{Aim, MayBeAimed};
+ghost use Rattle.jx_options.specs.Wanted.{MayBeWanted};
+ghost use Rattle.jx_plan.specs.Plan.{Plan};
+ghost use Rattle.jx_plan.specs.Planned.{IsPlanned};
+ghost use Rattle.jx_transcode.specs.Aims.{Aim, MayBeAimed, rule_in};
 ghost use Rattle.jx_transcode.specs.BoxesRun.{BoxesVerdict};
 ghost use Rattle.jx_cli.specs.MakeWords.{Make, MayBeMade};
 ghost use Rattle.jx_transcode.specs.declared.status.Status.{Status};
@@ -26,7 +29,8 @@ ghost use Rattle.jx_transcode.specs.SameRun.{SameVerdict, fewer_difference};
 ghost use Rattle.jx_transcode.specs.Sources.{HasCodestream};
 ghost use Rattle.jx_transcode.specs.TranscodeRun.{EndsBare};
 ghost use Rattle.jx_transcode.specs.MadeVerdict.{HasNoRule, MakesOneLayer};
-ghost use Rattle.jx_transcode.specs.MakeRun.{aim_made, input_of};
+ghost use Rattle.jx_transcode.specs.Filed.{IsAnswered, IsCarriedIn, IsCarriedTo};
+ghost use Rattle.jx_transcode.specs.MakeRun.{ComesOut, aim_made, input_of};
 ghost use Rattle.jx_transcode.specs.Outcome.{Verdict};
 
 use jx_codeblock::laws::{coded_anew_is_sound, new_bytes_with_bypass, nothing_of_wrong_symbols};
@@ -35,12 +39,33 @@ use jx_generate::laws::{
     made_blocks_are_plain, made_geometry, made_in_one_layer, made_is_short, made_is_well_formed,
 };
 use jx_jp2::laws::{one_codestream, one_tree, some_codestream, some_tree};
-use jx_plan::laws::{gathered_may_be_planned, kept_precincts_fit, one_answer};
+use jx_plan::laws::{
+    gathered_may_be_planned, kept_precincts_fit, one_answer, plans_write_these_blocks,
+    read_headers_stand,
+};
 use jx_plan::layer_laws::{blocks_are_written, jobs_have_these_ends};
 use jx_reduce::laws::{left_means, whole_stays};
 use jx_tier2_reader::laws::{never_both, one_gathering, one_of_both, one_violation};
-use jx_tier2_writer::laws::{one_output, written_is_ready};
+use jx_tier2_writer::laws::{one_output, rewritten_is_read, written_is_ready};
 use jx_tile_parts::laws::groups_are_cut;
+
+/// What a plan makes of the input that it was made of, by where it was written: a file, or memory. The output keeps what a written file keeps.
+pub fn plans_are_carried_out()
+    ensures file { (name : Text) (work : Work) (aim : Aim) (input : List ℕ) (s : Stream) (blocks : List Block) (p : Plan)
+        (st : Status) (count bytes : ℕ) (tape : List TapeEntry) (old new : Meaning)
+        → MayBeWanted aim.wanted → IsPlanned (rule_in aim s blocks) s blocks aim.wanted p → length input ≤ aim.limit → ReadsLeft aim.reduce input s blocks
+        → IsCarriedTo p name work st count bytes tape old new → IsAnswered name work aim input st count bytes tape old new }
+    ensures memory { (work : Work) (aim : Aim) (input : List ℕ) (s : Stream) (blocks : List Block) (p : Plan)
+        (st : Status) (count : ℕ) (out : List ℕ) (tape : List TapeEntry)
+        → MayBeWanted aim.wanted → IsPlanned (rule_in aim s blocks) s blocks aim.wanted p → length input ≤ aim.limit → ReadsLeft aim.reduce input s blocks
+        → IsCarriedIn p work st count out tape → ComesOut work aim input st count out tape }
+{
+    read_headers_stand();
+    plans_write_these_blocks();
+    rewritten_is_read();
+    left_means();
+    one_output();
+}
 
 /// An input has at most one verdict, where it may have as many bytes as words can ask for.
 pub fn one_verdict()

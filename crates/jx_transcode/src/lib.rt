@@ -5,7 +5,6 @@
 mod around;
 mod commands;
 mod device;
-mod file;
 mod input;
 mod judge;
 pub mod laws;

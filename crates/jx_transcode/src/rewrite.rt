@@ -1,36 +1,33 @@
-//! What becomes of a codestream that was read: its highest resolutions are left out, its output is planned, and it is written.
+//! The stages from a codestream that was read to its output: its highest resolutions are left out, a plan is made of what is left, and the
+//! plan is written to a file, or to memory.
 
 ghost use Rattle.std.specs.Prelude.{◌≡◌, ◌<◌, ◌≤◌, ℕ, List, [], length, IfErr, IfOk, IfSome, None, Some};
 ghost use Rattle.jx_io.specs.Causes.{Rose};
 ghost use Rattle.jx_codestream.specs.InRange.{StreamInRange};
-ghost use Rattle.jx_plan.specs.Plan.{MayBePlanned};
-ghost use Rattle.jx_plan.specs.Planned.{chosen};
+ghost use Rattle.jx_plan.specs.Facts.{facts_of};
+ghost use Rattle.jx_plan.specs.Plan.{IsPlan, MayBePlanned};
+ghost use Rattle.jx_plan.specs.Planned.{IsPlanned, chosen};
+ghost use Rattle.jx_options.specs.Wanted.{MayBeWanted};
 ghost use Rattle.jx_options.specs.Work.{MayBeWork};
 ghost use Rattle.jx_reduce.specs.Unreducible.{IsUnreducible};
 ghost use Rattle.jx_workers.specs.Told.{anew_in};
-ghost use Rattle.jx_transcode.specs.Aims.{MayBeTask, aim_by};
-ghost use Rattle.jx_transcode.specs.Filed.{IsAnswered, IsEndOf, all_told, blocks_told, status_of, told_of_all, told_of_plan};
-ghost use Rattle.jx_transcode.specs.Jp2Run.{IsPastRules};
-ghost use Rattle.jx_transcode.specs.Misfits.{HasTile, IsMisfitBy, IsMisfitOf};
+ghost use Rattle.jx_transcode.specs.Filed.{IsCarriedIn, IsCarriedTo, IsEndOf, IsUnplannedEnd, all_told, blocks_told, status_of, told_of_all, told_of_plan};
+ghost use Rattle.jx_transcode.specs.Misfits.{HasTile, IsMisfitBy};
 ghost use Rattle.jx_transcode.specs.Rewritten.{Reads, ReadsLeft};
 ghost use Rattle.jx_base.specs.Limits.{most_blocks};
 
 use crate::Status;
-use crate::file::write_file;
 use crate::judge::Picture;
-use crate::task::Task;
 use jx_base::Block;
 use jx_codeblock::Job;
 use jx_codestream::Stream;
 use jx_io::{Files, Gate};
 use jx_layers::LayerPlanner;
 use jx_options::Options;
-use jx_plan::laws::{plans_write_these_blocks, read_headers_stand};
-use jx_plan::{Misfit, PlanFault, first_misfit, plan_served, shortened};
+use jx_plan::{Misfit, OutStream, PlanFault, first_misfit, plan_served, shortened};
 use jx_reduce::ReduceFault;
-use jx_reduce::laws::{left_means, whole_stays};
-use jx_rounds::{Crew, Halt, TapeEntry};
-use jx_tier2_writer::laws::{one_output, rewritten_is_read};
+use jx_reduce::laws::whole_stays;
+use jx_rounds::{Crew, Halt, TapeEntry, write_file, write_memory};
 use std::alloc::Global;
 use std::sync::Wait;
 use std::thread::Threads;
@@ -69,7 +66,6 @@ impl Ending {
 /// The status of a file that wasn't written to its end.
 fn status_of(halt: Halt) -> Status
     ensures status { result ≡ status_of halt }
-    ensures past { IsPastRules result }
 {
     match halt {
         Halt::Bad { tile: _, number } => Status::Block { number },
@@ -85,7 +81,6 @@ fn status_of(halt: Halt) -> Status
 /// How a run ends whose file was written, or wasn't to its end, with the entries of the rounds that were.
 fn ending_of(written: Result<usize, Halt>, blocks: u32, tape: Vec<TapeEntry>) -> Ending
     ensures ends { IsEndOf written result.status result.bytes }
-    ensures past { IsPastRules result.status }
     ensures blocks { result.blocks ≡ blocks }
     ensures tape { result.tape.items ≡ tape.items }
     ensures misfit { result.misfit ≡ None }
@@ -126,7 +121,6 @@ fn misfit_of(alloc: Global, stream: &Stream, options: &Options, fault: PlanFault
 /// A plan that can't be had of an input with so many code-blocks, and what is told beside choice 2.
 fn unplanned_by(alloc: Global, fault: PlanFault, blocks: u32, misfit: Option<Misfit>) -> Ending
     ensures status { result.status ≡ told_of_plan fault }
-    ensures past { IsPastRules result.status }
     ensures blocks { (result.blocks ≡ blocks_told fault blocks) × (result.bytes ≡ 0) }
     ensures tape { result.tape.items ≡ [] }
     ensures misfit { IfSome result.misfit (λ told. misfit ≡ Some told) }
@@ -167,7 +161,6 @@ fn anew_in(jobs: &[Job<'_>]) -> u32
 /// Resolutions that can't be left out of a picture with so many code-blocks: choice 8 or choice 9.
 pub fn unreduced_by(alloc: Global, fault: ReduceFault, blocks: u32) -> Ending
     ensures status { result.status ≡ told_of_all fault }
-    ensures past { IsPastRules result.status }
     ensures blocks { (result.blocks ≡ all_told fault blocks) × (result.bytes ≡ 0) }
     ensures tape { result.tape.items ≡ [] }
     ensures misfit { result.misfit ≡ None }
@@ -207,50 +200,113 @@ pub fn without_resolutions<'a>(
     }
 }
 
-/// Plans the output of a picture and writes it under a name.
-pub fn rewrite<R: Threads + Wait + Sync, G: Gate + Sync, F: Files>(
+/// Plans the output of a picture.
+///
+/// # Errors
+/// Choice 1, choice 3, choice 2, choice 6, limit 7, choice 4 or choice 5, with the picture's code-blocks and where precincts misfit;
+/// `NoMemory`.
+pub fn planned<'a, 'b: 'a>(
+    alloc: Global,
+    picture: &'a Picture<'b>,
+    options: &'a Options,
+    planners: &mut [Box<dyn LayerPlanner>],
+) -> Result<OutStream<'a>, Ending>
+    requires may { MayBePlanned picture.now.stream picture.now.blocks.items }
+    requires wanted { MayBeWanted options.now }
+    ensures plan { IfOk result (λ p. IsPlanned (chosen (λ b. serves_text b options.entry.now.layers)
+        (λ b. rule_of b options.entry.now.layers (facts_of picture.entry.now.stream picture.entry.now.blocks.items)) planners.old)
+        picture.entry.now.stream picture.entry.now.blocks.items options.entry.now p) }
+    ensures err { IfErr result (λ ending. IsUnplannedEnd (chosen (λ b. serves_text b options.entry.now.layers)
+        (λ b. rule_of b options.entry.now.layers (facts_of picture.entry.now.stream picture.entry.now.blocks.items)) planners.old)
+        picture.entry.now.stream picture.entry.now.blocks.items options.entry.now ending) }
+{
+    let blocks: &[Block<'_>] = &picture.blocks;
+    match plan_served(alloc, &picture.stream, shortened(blocks), options, planners) {
+        Ok(plan) => Ok(plan),
+        Err(fault) => {
+            let misfit = misfit_of(alloc, &picture.stream, options, fault);
+            Err(unplanned_by(alloc, fault, blocks.len() as u32, misfit))
+        }
+    }
+}
+
+/// A plan that is written to a file of its own.
+pub fn write_bare<R: Threads + Wait + Sync, G: Gate + Sync, F: Files>(
     crew: &Crew<'_, R, G>,
     alloc: Global,
     files: &mut F,
     to: &str,
-    picture: &Picture<'_>,
-    task: &Task<'_>,
-    planners: &mut [Box<dyn LayerPlanner>],
+    plan: &OutStream<'_>,
 ) -> Ending
     requires creates { F.can_create files.old to.now }
-    requires may { MayBePlanned picture.now.stream picture.now.blocks.items }
-    requires task { MayBeTask task.now }
+    requires plan { IsPlan plan.now }
     requires work { MayBeWork crew.now.work }
-    ensures answer { (input : List ℕ) → length input ≤ task.now.limit → ReadsLeft task.now.reduce input picture.now.stream picture.now.blocks.items
-        → IsAnswered to.now crew.now.work (aim_by task.now (λ text facts. chosen (λ b. serves_text b text) (λ b. rule_of b text facts) planners.old))
-        input result.status result.blocks result.bytes result.tape.items (F.meaning files.old) (F.meaning files.new) }
+    ensures carried { IsCarriedTo plan.now to.now crew.now.work result.status result.blocks result.bytes result.tape.items
+        (F.meaning files.old) (F.meaning files.new) }
     ensures cause { result.status ≡ Status.WriteFault → Rose (F.write_faults files.old) (F.write_faults files.new) }
     ensures rose { F.write_faults files.old < F.write_faults files.new → result.status ≡ Status.WriteFault }
     ensures read { (result.status ≡ Status.ReadFault → ⊥) × (result.status ≡ Status.Words → ⊥) }
-    ensures past { IsPastRules result.status }
     ensures other { F.read_faults files.new ≡ F.read_faults files.old }
-    ensures misfit { (input : List ℕ) → length input ≤ task.now.limit → ReadsLeft task.now.reduce input picture.now.stream picture.now.blocks.items
-        → IfSome result.misfit (λ misfit. IsMisfitOf task.now.options.now.precincts task.now.reduce task.now.limit input result.status misfit) }
+    ensures misfit { result.misfit ≡ None }
 {
-    read_headers_stand();
-    plans_write_these_blocks();
-    rewritten_is_read();
-    left_means();
-    one_output();
-    let blocks: &[Block<'_>] = &picture.blocks;
-    let options = task.options;
-    let plan = match plan_served(alloc, &picture.stream, shortened(blocks), options, planners) {
-        Ok(plan) => plan,
-        Err(fault) => {
-            let misfit = misfit_of(alloc, &picture.stream, options, fault);
-            return unplanned_by(alloc, fault, blocks.len() as u32, misfit);
-        }
-    };
     let jobs = plan.jobs();
     let count = jobs.len() as u32;
     let mut tape = Vec::new(alloc);
     crew.gate.begin(anew_in(jobs));
-    let written = write_file(crew, alloc, files, to, &plan, &mut tape);
+    let written = write_file(crew, alloc, files, to, plan, &mut tape);
     crew.gate.end();
     ending_of(written, count, tape)
+}
+
+/// A codestream that was written to memory, or wasn't to its end.
+#[derive(Drop)]
+pub struct Made {
+    pub status: Status,
+    pub blocks: u32,
+    // its bytes after Done, else none
+    pub out: Vec<u8>,
+    // the entries of the rounds that were made
+    pub tape: Vec<TapeEntry>,
+}
+
+/// What was made of a plan with so many code-blocks.
+fn made_of(alloc: Global, written: Result<Vec<u8>, Halt>, blocks: u32, tape: Vec<TapeEntry>) -> Made
+    ensures ok { IfOk written (λ bytes. (result.status ≡ Status.Done) × (result.out.items ≡ bytes.items)) }
+    ensures err { IfErr written (λ h. result.status ≡ status_of h) }
+    ensures blocks { result.blocks ≡ blocks }
+    ensures tape { result.tape.items ≡ tape.items }
+{
+    match written {
+        Ok(out) => Made {
+            status: Status::Done,
+            blocks,
+            out,
+            tape,
+        },
+        Err(halt) => Made {
+            status: status_of(halt),
+            blocks,
+            out: Vec::new(alloc),
+            tape,
+        },
+    }
+}
+
+/// A plan that is written to memory.
+pub fn made_in_memory<R: Threads + Wait + Sync, G: Gate + Sync>(
+    crew: &Crew<'_, R, G>,
+    alloc: Global,
+    plan: &OutStream<'_>,
+) -> Made
+    requires plan { IsPlan plan.now }
+    requires work { MayBeWork crew.now.work }
+    ensures { IsCarriedIn plan.now crew.now.work result.status result.blocks result.out.items result.tape.items }
+{
+    let jobs = plan.jobs();
+    let count = jobs.len() as u32;
+    let mut tape = Vec::new(alloc);
+    crew.gate.begin(anew_in(jobs));
+    let written = write_memory(crew, alloc, plan, &mut tape);
+    crew.gate.end();
+    made_of(alloc, written, count, tape)
 }

@@ -1,29 +1,25 @@
 //! `make`: a generated codestream is transcoded in memory, and no file is touched.
 
-ghost use Rattle.std.specs.Prelude.{◌≡◌, ◌<◌, ℕ, List, [], IfOk, false, string_bytes};
+ghost use Rattle.std.specs.Prelude.{◌≡◌, ◌<◌, [], IfOk, false, string_bytes};
 ghost use Rattle.std.specs.List.{sum};
 ghost use Rattle.jx_io.specs.Causes.{Rose};
 ghost use Rattle.jx_io.specs.Device.{Meaning};
 ghost use Rattle.jx_plan.specs.Planned.{chosen};
 ghost use Rattle.jx_cli.specs.MakeWords.{MayBeMade};
-ghost use Rattle.jx_transcode.specs.Filed.{IsAnswered};
-ghost use Rattle.jx_transcode.specs.MakeRun.{EndsMade, aim_made, IsLastMade, IsReadyToSay, input_of, make_line, wanted_made, work_made};
+ghost use Rattle.jx_transcode.specs.MakeRun.{EndsMade, IsReadyToSay, input_of, make_line, wanted_made, work_made};
 ghost use Rattle.jx_transcode.specs.Outcome.{EndsAs};
 
 use crate::judge::read_checked;
-use crate::laws::all_is_left;
+use crate::laws::{all_is_left, plans_are_carried_out};
 use crate::lines::line_of;
-use crate::rewrite::{Ending, rewrite};
+use crate::rewrite::{made_in_memory, planned};
 use crate::say::{refuse, say_line};
-use crate::task::Task;
 use crate::{Report, Status};
 use jx_base::Style;
 use jx_cli::Make;
-use jx_io::{Files, Gate, Sink, SureFiles};
+use jx_io::{Gate, Sink};
 use jx_layers::LayerPlanner;
-use jx_options::{
-    FormChoice, Marks, Options, OrderChoice, PartChoice, PrecinctChoice, RsizChoice, Work,
-};
+use jx_options::{Marks, Options, OrderChoice, PartChoice, PrecinctChoice, RsizChoice, Work};
 use jx_rounds::{Crew, TapeEntry};
 use std::alloc::{AllocError, Global};
 use std::sync::Wait;
@@ -41,7 +37,7 @@ const LIMIT: u32 = 268_435_456;
 
 /// How a transcoded picture came out, before anything is said.
 #[derive(Debug, Drop)]
-struct Made {
+struct MadeFile {
     status: Status,
     blocks: u32,
     // after Done, how many bytes were generated
@@ -82,49 +78,23 @@ fn sum_of(bytes: &[u8]) -> u128
     total
 }
 
-/// The sum of the bytes of the file that was created last.
-fn sum_made(files: &SureFiles) -> u128
-    ensures { (name bytes : List ℕ) → IsLastMade name bytes (⟦<SureFiles as Files>⟧.meaning files.now) → result ≡ sum bytes }
+/// A generated codestream of which nothing was made.
+fn refused(alloc: Global, status: Status, blocks: u32) -> MadeFile
+    ensures status { result.status ≡ status }
+    ensures blocks { result.blocks ≡ blocks }
+    ensures tape { result.tape.items ≡ [] }
 {
-    match files.made() {
-        Some((_, bytes)) => sum_of(bytes),
-        None => 0,
+    MadeFile {
+        status,
+        blocks,
+        before: 0,
+        after: 0,
+        total: 0,
+        tape: Vec::new(alloc),
     }
 }
 
-/// What becomes of a generated codestream, with all of its resolutions, over files in memory.
-fn answer<R: Threads + Wait + Sync, G: Gate + Sync>(
-    crew: &Crew<'_, R, G>,
-    alloc: Global,
-    files: &mut SureFiles,
-    asked: Make,
-    input: &[u8],
-    options: &Options,
-    planners: &mut [Box<dyn LayerPlanner>],
-) -> Ending
-    requires generated { input.now ≡ input_of asked }
-    requires wanted { options.now ≡ wanted_made }
-    requires work { crew.now.work ≡ work_made }
-    ensures answer { IsAnswered [] work_made (aim_made (λ text facts. chosen (λ b. serves_text b text) (λ b. rule_of b text facts) planners.old))
-        (input_of asked) result.status result.blocks result.bytes result.tape.items
-        (⟦<SureFiles as Files>⟧.meaning files.old) (⟦<SureFiles as Files>⟧.meaning files.new) }
-    ensures read { (result.status ≡ Status.ReadFault → ⊥) × (result.status ≡ Status.Words → ⊥) }
-    ensures unfailed { result.status ≡ Status.WriteFault → ⊥ }
-{
-    all_is_left();
-    let task = Task {
-        options,
-        form: FormChoice::Codestream,
-        reduce: 0,
-        limit: LIMIT,
-    };
-    match read_checked(alloc, input, LIMIT) {
-        Ok(read) => rewrite(crew, alloc, files, "", &read.picture, &task, planners),
-        Err(status) => Ending::refused(alloc, status),
-    }
-}
-
-/// What becomes of a generated codestream.
+/// What becomes of a generated codestream, with all of its resolutions.
 fn transcoded<R: Threads + Wait + Sync, G: Gate + Sync>(
     crew: &Crew<'_, R, G>,
     alloc: Global,
@@ -132,22 +102,31 @@ fn transcoded<R: Threads + Wait + Sync, G: Gate + Sync>(
     input: &[u8],
     options: &Options,
     planners: &mut [Box<dyn LayerPlanner>],
-) -> Made
+) -> MadeFile
     requires generated { input.now ≡ input_of asked }
     requires wanted { options.now ≡ wanted_made }
     requires work { crew.now.work ≡ work_made }
     ensures { IsReadyToSay asked (λ text facts. chosen (λ b. serves_text b text) (λ b. rule_of b text facts) planners.old)
         result.status result.blocks result.before result.after result.total result.tape.items }
 {
-    let mut files = SureFiles::new(alloc);
-    let ending = answer(crew, alloc, &mut files, asked, input, options, planners);
-    Made {
-        status: ending.status,
-        blocks: ending.blocks,
+    plans_are_carried_out();
+    all_is_left();
+    let read = match read_checked(alloc, input, LIMIT) {
+        Ok(read) => read,
+        Err(status) => return refused(alloc, status, 0),
+    };
+    let plan = match planned(alloc, &read.picture, options, planners) {
+        Ok(plan) => plan,
+        Err(ending) => return refused(alloc, ending.status, ending.blocks),
+    };
+    let made = made_in_memory(crew, alloc, &plan);
+    MadeFile {
+        status: made.status,
+        blocks: made.blocks,
         before: input.len(),
-        after: ending.bytes,
-        total: sum_made(&files),
-        tape: ending.tape,
+        after: made.out.len(),
+        total: sum_of(&made.out),
+        tape: made.tape,
     }
 }
 
@@ -172,7 +151,7 @@ fn make_line(
 }
 
 /// Says the line of what came out.
-fn say_made<S: Sink>(alloc: Global, say: &mut S, made: Made) -> Report
+fn say_made<S: Sink>(alloc: Global, say: &mut S, made: MadeFile) -> Report
     ensures says { EndsAs made.status (make_line made.status made.blocks made.before made.after made.total) result.status (S.said say.old) (S.said say.new) (S.faults say.old) (S.faults say.new) }
     ensures blocks { result.blocks ≡ made.blocks }
     ensures tape { result.tape.items ≡ made.tape.items }

@@ -11,14 +11,16 @@ ghost use Rattle.jx_transcode.specs.Aims.{MayBeTask, aim_by};
 ghost use Rattle.jx_transcode.specs.Filed.{IsAnswered, IsTooLong, unread_as};
 ghost use Rattle.jx_transcode.specs.Jp2Run.{EndsJp2, KeepsPositions};
 ghost use Rattle.jx_transcode.specs.Misfits.{IsChoice, IsMisfitOfFile, TellsMisfit};
-ghost use Rattle.jx_transcode.specs.Outcome.{EndsAs, EndsAsReadFault, IsUntouched, line_of};
+ghost use Rattle.jx_rounds.specs.Files.{IsUntouched};
+ghost use Rattle.jx_transcode.specs.Outcome.{EndsAs, EndsAsReadFault, line_of};
 ghost use Rattle.jx_transcode.specs.TranscodeRun.{Ends, TellsPositions};
 
-use crate::around::rewrite_around;
+use crate::around::write_around;
 use crate::input::{read_input, unread_as};
 use crate::judge::{Accepted, read_checked};
+use crate::laws::plans_are_carried_out;
 use crate::lines::line_of;
-use crate::rewrite::{Ending, rewrite, unreduced_by, without_resolutions};
+use crate::rewrite::{Ending, planned, unreduced_by, without_resolutions, write_bare};
 use crate::say::say_line;
 use crate::task::Task;
 use crate::{Report, Status};
@@ -75,6 +77,7 @@ fn answer<R: Threads + Wait + Sync, G: Gate + Sync, F: Files>(
     ensures misfit { IfSome result.misfit (λ misfit.
         IsMisfitOfFile task.now.options.now.precincts task.now.reduce task.now.limit input.now result.status misfit) }
 {
+    plans_are_carried_out();
     gathered_may_be_planned();
     whole_stays();
     let read = match read_checked(alloc, input, task.limit) {
@@ -88,9 +91,13 @@ fn answer<R: Threads + Wait + Sync, G: Gate + Sync, F: Files>(
         Ok(left) => left,
         Err(fault) => return unreduced_by(alloc, fault, count),
     };
+    let plan = match planned(alloc, &left, task.options, planners) {
+        Ok(plan) => plan,
+        Err(ending) => return ending,
+    };
     match source.boxed {
-        None => rewrite(crew, alloc, files, to, &left, task, planners),
-        Some(boxed) => rewrite_around(crew, alloc, files, to, input, &boxed, &left, task, planners),
+        None => write_bare(crew, alloc, files, to, &plan),
+        Some(boxed) => write_around(crew, alloc, files, to, task.form, input, &boxed, &plan),
     }
 }
 

@@ -2,9 +2,12 @@ use Rattle.std.proofs.Common.{◌≡◌, ◌∙◌, ◌+◌, List, ap, arith, in
 use Rattle.jx_base.specs.declared.pieces.Block.{Block}
 use Rattle.jx_rounds.proofs.FrontLemmas.{planned_few}
 use Rattle.jx_transcode.specs.declared.status.Status.TheVariants as status
+use Rattle.jx_transcode.proofs.AroundLemmas.{around_ends}
+use Rattle.jx_transcode.proofs.JudgeLemmas.{content_short}
 use Rattle.jx_transcode.proofs.MisfitLemmas.{each_told, told_on, untold}
 use Rattle.jx_transcode.proofs.ReducedLemmas.{all_unread, all_unwritten}
-use Rattle.jx_transcode.proofs.SourceLemmas.{left_bare, left_boxed, lies_bare, lies_boxed, unfit_apart, unfit_bare, unfit_jp2, unfit_undone, unreduced_bare, unreduced_jp2}
+use Rattle.jx_transcode.proofs.RefusedLemmas.{plan_unread, plan_unwritten}
+use Rattle.jx_transcode.proofs.SourceLemmas.{left_bare, left_boxed, lies_bare, lies_boxed, unfit_apart, unfit_bare, unfit_jp2, unfit_undone, unplanned_bare, unplanned_jp2, unplanned_misfit, unreduced_bare, unreduced_jp2}
 use Rattle.jx_transcode.proofs.commands.transcode.answer.Goals as goal
 
 pub overflow_cast-count : goal.overflow_cast-count
@@ -70,11 +73,40 @@ returns-in-Err-without_resolutions-clause-short g c = λ done. c.in-Ok.ensures.w
 pub returns-in-Err-without_resolutions-clause-misfit : goal.returns-in-Err-without_resolutions-clause-misfit
 returns-in-Err-without_resolutions-clause-misfit g c = untold _ c.unreduced_by.result.misfit c.unreduced_by.ensures.misfit
 
+-- ---- what is left isn't planned
+pub returns-in-Err-planned-clause-bare : goal.returns-in-Err-planned-clause-bare
+returns-in-Err-planned-clause-bare g c = λ not. unplanned_bare _ _ _ c.args.input.now c.in-Ok.read.source.boxed c.in-Ok.read.source.from c.in-Ok.read.source.codestream.now c.in-Ok-without_resolutions.left.stream c.in-Ok-without_resolutions.left.blocks.items c.in-Err-planned.ending _
+    (record { within = c.in-Ok.ensures.within; lies = c.in-Ok.ensures.source.lies; left = c.in-Ok-without_resolutions.ensures.ok c.in-Ok.read.source.codestream.now c.in-Ok.ensures.reads }) c.in-Err-planned.ensures.err not
+
+pub returns-in-Err-planned-clause-jp2 : goal.returns-in-Err-planned-clause-jp2
+returns-in-Err-planned-clause-jp2 g c = λ is. unplanned_jp2 _ _ _ _ c.args.input.now c.in-Ok.read.source.boxed c.in-Ok.read.source.from c.in-Ok.read.source.codestream.now c.in-Ok-without_resolutions.left.stream c.in-Ok-without_resolutions.left.blocks.items c.in-Err-planned.ending _
+    (record { within = c.in-Ok.ensures.within; lies = c.in-Ok.ensures.source.lies; left = c.in-Ok-without_resolutions.ensures.ok c.in-Ok.read.source.codestream.now c.in-Ok.ensures.reads }) c.in-Err-planned.ensures.err is
+
+pub returns-in-Err-planned-clause-long : goal.returns-in-Err-planned-clause-long
+returns-in-Err-planned-clause-long g c = λ long. absurd (omega (arith, long, c.in-Ok.ensures.within))
+
+pub returns-in-Err-planned-clause-cause : goal.returns-in-Err-planned-clause-cause
+returns-in-Err-planned-clause-cause g c = λ failed. absurd (plan_unwritten c.in-Err-planned.ensures.err.why _ c.in-Err-planned.ensures.err.status_is failed)
+
+pub returns-in-Err-planned-clause-rose : goal.returns-in-Err-planned-clause-rose
+returns-in-Err-planned-clause-rose g c = λ rose. absurd (omega (arith, rose))
+
+pub returns-in-Err-planned-clause-read : goal.returns-in-Err-planned-clause-read
+returns-in-Err-planned-clause-read g c = plan_unread c.in-Err-planned.ensures.err.why _ c.in-Err-planned.ensures.err.status_is
+
+pub returns-in-Err-planned-clause-short : goal.returns-in-Err-planned-clause-short
+returns-in-Err-planned-clause-short g c = λ done. c.in-Ok.ensures.within
+
+pub returns-in-Err-planned-clause-misfit : goal.returns-in-Err-planned-clause-misfit
+returns-in-Err-planned-clause-misfit g c = told_on _ _ c.in-Err-planned.ending.misfit c.in-Err-planned.ending.misfit (each_told c.in-Err-planned.ending.misfit)
+    (λ m by. unplanned_misfit c.args.task.now.options.now _ _ _ c.args.input.now c.in-Ok.read.source.boxed c.in-Ok.read.source.from c.in-Ok.read.source.codestream.now c.in-Ok-without_resolutions.left.stream c.in-Ok-without_resolutions.left.blocks.items c.in-Err-planned.ending m
+    c.in-Ok.ensures.within c.in-Ok.ensures.source.lies (c.in-Ok-without_resolutions.ensures.ok c.in-Ok.read.source.codestream.now c.in-Ok.ensures.reads) c.in-Err-planned.ensures.err by) c.in-Err-planned.ensures.err.misfit
+
 -- ---- a codestream
 pub returns-in-None-clause-bare : goal.returns-in-None-clause-bare
-returns-in-None-clause-bare g c = λ not. c.rewrite.ensures.answer c.args.input.now c.in-Ok.ensures.within
+returns-in-None-clause-bare g c = λ not. c.plans_are_carried_out.ensures.file _ _ _ c.args.input.now c.in-Ok-without_resolutions.left.stream c.in-Ok-without_resolutions.left.blocks.items c.in-Ok-planned.plan _ _ _ _ _ _ c.requires.task.0 c.in-Ok-planned.ensures.plan c.in-Ok.ensures.within
     (left_bare c.args.task.now.reduce c.args.input.now c.in-Ok.read.source.codestream.now c.in-Ok.read.source.boxed c.in-Ok.read.source.from c.in-Ok-without_resolutions.left.stream c.in-Ok-without_resolutions.left.blocks.items c.in-None.is c.in-Ok.ensures.source.lies
-    (c.in-Ok-without_resolutions.ensures.ok c.in-Ok.read.source.codestream.now c.in-Ok.ensures.reads))
+    (c.in-Ok-without_resolutions.ensures.ok c.in-Ok.read.source.codestream.now c.in-Ok.ensures.reads)) c.write_bare.ensures.carried
 
 pub returns-in-None-clause-jp2 : goal.returns-in-None-clause-jp2
 returns-in-None-clause-jp2 g c = λ is. absurd ((lies_bare c.args.input.now c.in-Ok.read.source.boxed c.in-Ok.read.source.from c.in-Ok.read.source.codestream.now c.in-None.is c.in-Ok.ensures.source.lies).0 is)
@@ -83,58 +115,59 @@ pub returns-in-None-clause-long : goal.returns-in-None-clause-long
 returns-in-None-clause-long g c = λ long. absurd (omega (arith, long, c.in-Ok.ensures.within))
 
 pub returns-in-None-clause-cause : goal.returns-in-None-clause-cause
-returns-in-None-clause-cause g c = c.rewrite.ensures.cause
+returns-in-None-clause-cause g c = c.write_bare.ensures.cause
 
 pub returns-in-None-clause-rose : goal.returns-in-None-clause-rose
-returns-in-None-clause-rose g c = c.rewrite.ensures.rose
+returns-in-None-clause-rose g c = c.write_bare.ensures.rose
 
 pub returns-in-None-clause-read : goal.returns-in-None-clause-read
-returns-in-None-clause-read g c = c.rewrite.ensures.read
+returns-in-None-clause-read g c = c.write_bare.ensures.read
 
 pub returns-in-None-clause-other : goal.returns-in-None-clause-other
-returns-in-None-clause-other g c = c.rewrite.ensures.other
+returns-in-None-clause-other g c = c.write_bare.ensures.other
 
 pub returns-in-None-clause-short : goal.returns-in-None-clause-short
 returns-in-None-clause-short g c = λ done. c.in-Ok.ensures.within
 
 pub returns-in-None-clause-misfit : goal.returns-in-None-clause-misfit
-returns-in-None-clause-misfit g c = told_on _ _ c.rewrite.result.misfit c.rewrite.result.misfit (each_told c.rewrite.result.misfit) (λ m is. inl ((lies_bare c.args.input.now c.in-Ok.read.source.boxed c.in-Ok.read.source.from c.in-Ok.read.source.codestream.now c.in-None.is c.in-Ok.ensures.source.lies).0, is))
-    (c.rewrite.ensures.misfit c.args.input.now c.in-Ok.ensures.within
-    (left_bare c.args.task.now.reduce c.args.input.now c.in-Ok.read.source.codestream.now c.in-Ok.read.source.boxed c.in-Ok.read.source.from c.in-Ok-without_resolutions.left.stream c.in-Ok-without_resolutions.left.blocks.items c.in-None.is c.in-Ok.ensures.source.lies
-    (c.in-Ok-without_resolutions.ensures.ok c.in-Ok.read.source.codestream.now c.in-Ok.ensures.reads)))
+returns-in-None-clause-misfit g c = untold _ c.write_bare.result.misfit c.write_bare.ensures.misfit
 
 -- ---- a JP2 file
-pub rewrite_around-requires-clause-found : goal.rewrite_around-requires-clause-found
-rewrite_around-requires-clause-found g c = λ lifetimes within. (lies_boxed c.args.input.now c.in-Ok.read.source.boxed c.in-Ok.read.source.from c.in-Ok.read.source.codestream.now c.in-Some.boxed c.in-Some.is c.in-Ok.ensures.source.lies).1
+pub write_around-requires-clause-within : goal.write_around-requires-clause-within
+write_around-requires-clause-within g c = λ lifetimes within. omega (arith, c.in-Ok.ensures.within)
 
-pub rewrite_around-requires-clause-left : goal.rewrite_around-requires-clause-left
-rewrite_around-requires-clause-left g c = λ lifetimes within. (left_boxed c.args.task.now.reduce c.args.input.now c.in-Ok.read.source.codestream.now c.in-Ok.read.source.boxed c.in-Ok.read.source.from c.in-Ok-without_resolutions.left.stream c.in-Ok-without_resolutions.left.blocks.items c.in-Some.boxed c.in-Some.is c.in-Ok.ensures.source.lies
-    (c.in-Ok-without_resolutions.ensures.ok c.in-Ok.read.source.codestream.now c.in-Ok.ensures.reads))
+pub write_around-requires-clause-found : goal.write_around-requires-clause-found
+write_around-requires-clause-found g c = λ lifetimes within. (lies_boxed c.args.input.now c.in-Ok.read.source.boxed c.in-Ok.read.source.from c.in-Ok.read.source.codestream.now c.in-Some.boxed c.in-Some.is c.in-Ok.ensures.source.lies).1
 
 pub returns-clause-bare : goal.returns-clause-bare
 returns-clause-bare g c = λ not. absurd (not (lies_boxed c.args.input.now c.in-Ok.read.source.boxed c.in-Ok.read.source.from c.in-Ok.read.source.codestream.now c.in-Some.boxed c.in-Some.is c.in-Ok.ensures.source.lies).0)
 
 pub returns-clause-jp2 : goal.returns-clause-jp2
-returns-clause-jp2 g c = λ is. inr (c.in-Some.boxed, c.rewrite_around.ensures.answer)
+returns-clause-jp2 g c = λ is. inr (
+  c.in-Some.boxed,
+  around_ends _ _ _ _ c.args.input.now c.in-Some.boxed c.in-Ok-planned.plan _ _ _ _ _ _ c.in-Ok.ensures.within (lies_boxed c.args.input.now c.in-Ok.read.source.boxed c.in-Ok.read.source.from c.in-Ok.read.source.codestream.now c.in-Some.boxed c.in-Some.is c.in-Ok.ensures.source.lies).1
+      (λ st out of. c.plans_are_carried_out.ensures.memory _ _ _ c.in-Ok-without_resolutions.left.stream c.in-Ok-without_resolutions.left.blocks.items c.in-Ok-planned.plan st _ out _ c.requires.task.0 c.in-Ok-planned.ensures.plan (content_short c.args.task.now.limit c.args.input.now c.in-Some.boxed c.in-Ok.ensures.within)
+      (left_boxed c.args.task.now.reduce c.args.input.now c.in-Ok.read.source.codestream.now c.in-Ok.read.source.boxed c.in-Ok.read.source.from c.in-Ok-without_resolutions.left.stream c.in-Ok-without_resolutions.left.blocks.items c.in-Some.boxed c.in-Some.is c.in-Ok.ensures.source.lies
+      (c.in-Ok-without_resolutions.ensures.ok c.in-Ok.read.source.codestream.now c.in-Ok.ensures.reads)) of) c.write_around.ensures.carried,
+)
 
 pub returns-clause-long : goal.returns-clause-long
 returns-clause-long g c = λ long. absurd (omega (arith, long, c.in-Ok.ensures.within))
 
 pub returns-clause-cause : goal.returns-clause-cause
-returns-clause-cause g c = c.rewrite_around.ensures.cause
+returns-clause-cause g c = c.write_around.ensures.cause
 
 pub returns-clause-rose : goal.returns-clause-rose
-returns-clause-rose g c = c.rewrite_around.ensures.rose
+returns-clause-rose g c = c.write_around.ensures.rose
 
 pub returns-clause-read : goal.returns-clause-read
-returns-clause-read g c = c.rewrite_around.ensures.read
+returns-clause-read g c = c.write_around.ensures.read
 
 pub returns-clause-other : goal.returns-clause-other
-returns-clause-other g c = c.rewrite_around.ensures.other
+returns-clause-other g c = c.write_around.ensures.other
 
 pub returns-clause-short : goal.returns-clause-short
 returns-clause-short g c = λ done. c.in-Ok.ensures.within
 
 pub returns-clause-misfit : goal.returns-clause-misfit
-returns-clause-misfit g c = told_on _ _ c.rewrite_around.result.misfit c.rewrite_around.result.misfit (each_told c.rewrite_around.result.misfit)
-    (λ m is. inr ((lies_boxed c.args.input.now c.in-Ok.read.source.boxed c.in-Ok.read.source.from c.in-Ok.read.source.codestream.now c.in-Some.boxed c.in-Some.is c.in-Ok.ensures.source.lies).0, (c.in-Ok.ensures.within, c.in-Some.boxed, (lies_boxed c.args.input.now c.in-Ok.read.source.boxed c.in-Ok.read.source.from c.in-Ok.read.source.codestream.now c.in-Some.boxed c.in-Some.is c.in-Ok.ensures.source.lies).1, is))) c.rewrite_around.ensures.misfit
+returns-clause-misfit g c = untold _ c.write_around.result.misfit c.write_around.ensures.misfit

@@ -4,6 +4,7 @@ use Rattle.jx_io.specs.Device.{Meaning, after_create, after_finish, after_write}
 use Rattle.jx_io.specs.declared.refused.Refused.{Refused}
 use Rattle.jx_plan.specs.Plan.{Plan}
 use Rattle.jx_rounds.specs.FileBytes.{bytes_of, told_beside}
+use Rattle.jx_rounds.specs.Files.{HasWritten, IsFileBegun, IsFileHalted, IsFileMade, IsFileSpoiled, IsUntouched}
 use Rattle.jx_rounds.specs.Halts.{halt_of}
 use Rattle.jx_rounds.specs.Heads.{IsHead, IsUnmeasured}
 use Rattle.jx_rounds.specs.Rounds.{HasWhole, IsFault, IsHalted, IsHaltedByFault, IsHaltedTile}
@@ -13,10 +14,6 @@ use Rattle.jx_rounds.specs.declared.halt.Halt.TheVariants as halt
 use Rattle.jx_rounds.proofs.FileLemmas.{meaning_after}
 use Rattle.jx_rounds.proofs.TakenLemmas.{all_front}
 use Rattle.jx_rounds.proofs.WriteLemmas.{halt_fault}
-use Rattle.jx_transcode.specs.Filed.{IsFileBegun, IsFileHalted, IsFileMade, IsFileSpoiled}
-use Rattle.jx_transcode.specs.Outcome.{IsUntouched}
-use Rattle.jx_transcode.specs.Progress.{HasWritten}
-use Rattle.jx_cli.specs.Words.{Text}
 
 pub untouched : (m : Meaning) → IsUntouched m m
 untouched m = record { holds = λ name. refl; making = refl; written = refl }
@@ -29,11 +26,11 @@ has_written : (created new : Meaning) (bytes rest : List ℕ) → HasTaken (byte
 has_written created new bytes rest taken beside = record { front = taken.front; whole = taken.whole; meaning = meaning_after created new taken.front taken.written beside }
 
 -- a file that was created is being made
-pub created_making : (name : Text) (old new : Meaning) → new ≡ after_create name old → IsTrue new.making
+pub created_making : (name : List ℕ) (old new : Meaning) → new ≡ after_create name old → IsTrue new.making
 created_making name old new is = subst (λ (m : Meaning). IsTrue m.making) (sym is) refl
 
 -- ---- under a name
-pub file_made : (p : Plan) (name : Text) (head : List ℕ) (count : ℕ) (old created now new : Meaning) → IsHead p head → created ≡ after_create name old → HasWhole p head count (bytes_of created) (bytes_of now)
+pub file_made : (p : Plan) (name : List ℕ) (head : List ℕ) (count : ℕ) (old created now new : Meaning) → IsHead p head → created ≡ after_create name old → HasWhole p head count (bytes_of created) (bytes_of now)
     → told_beside now ≡ told_beside created → new ≡ after_finish now → IsFileMade p name count old new
 file_made p name head count old created now new of is whole beside finished = record {
   head = head;
@@ -48,7 +45,7 @@ file_made p name head count old created now new of is whole beside finished = re
   count_is = whole.count_is;
 }
 
-pub begun_at : (p : Plan) (name : Text) (head : List ℕ) (old created new : Meaning) → IsHead p head → created ≡ after_create name old → IsHaltedByFault p head (bytes_of created) (bytes_of new)
+pub begun_at : (p : Plan) (name : List ℕ) (head : List ℕ) (old created new : Meaning) → IsHead p head → created ≡ after_create name old → IsHaltedByFault p head (bytes_of created) (bytes_of new)
     → told_beside new ≡ told_beside created → IsFileBegun p name old new
 begun_at p name head old created new of is fault beside = inr (record {
   head = head;
@@ -63,7 +60,7 @@ begun_at p name head old created new of is fault beside = inr (record {
   );
 })
 
-stopped_at : (p : Plan) (name : Text) (head : List ℕ) (h : Halt) (tile : ℕ) (old created new : Meaning) → IsHead p head → created ≡ after_create name old → IsHaltedTile p head h tile (bytes_of created) (bytes_of new)
+stopped_at : (p : Plan) (name : List ℕ) (head : List ℕ) (h : Halt) (tile : ℕ) (old created new : Meaning) → IsHead p head → created ≡ after_create name old → IsHaltedTile p head h tile (bytes_of created) (bytes_of new)
     → told_beside new ≡ told_beside created → IsFileSpoiled p name h tile old new
 stopped_at p name head h tile old created new of is halted beside = inl (record {
   head = head;
@@ -73,14 +70,14 @@ stopped_at p name head h tile old created new of is halted beside = inl (record 
   stopped = (old, untouched old, meaning_after created new halted.bytes halted.written beside ∙ ap (after_write halted.bytes) is);
 })
 
-pub file_halted : (p : Plan) (name : Text) (head : List ℕ) (h : Halt) (old created new : Meaning) → IsHead p head → created ≡ after_create name old → IsHalted p head h (bytes_of created) (bytes_of new)
+pub file_halted : (p : Plan) (name : List ℕ) (head : List ℕ) (h : Halt) (old created new : Meaning) → IsHead p head → created ≡ after_create name old → IsHalted p head h (bytes_of created) (bytes_of new)
     → told_beside new ≡ told_beside created → IsFileHalted p name h old new
 file_halted p name head (halt.Bad tile number) old created new of is halted beside = stopped_at p name head (halt.Bad tile number) tile old created new of is halted beside
 file_halted p name head (halt.TooLong tile) old created new of is halted beside = stopped_at p name head (halt.TooLong tile) tile old created new of is halted beside
 file_halted p name head halt.Failed old created new of is fault beside = begun_at p name head old created new of is fault beside
 file_halted p name head halt.NoMemory old created new of is fault beside = begun_at p name head old created new of is fault beside
 
-pub fault_begun : (p : Plan) (name : Text) (h : Halt) (old new : Meaning) → IsFault h → IsFileBegun p name old new → IsFileHalted p name h old new
+pub fault_begun : (p : Plan) (name : List ℕ) (h : Halt) (old new : Meaning) → IsFault h → IsFileBegun p name old new → IsFileHalted p name h old new
 fault_begun p name (halt.Bad tile number) old new never begun = absurd never
 fault_begun p name (halt.TooLong tile) old new never begun = absurd never
 fault_begun p name halt.Failed old new fault begun = begun
@@ -90,19 +87,19 @@ fault_begun p name halt.NoMemory old new fault begun = begun
 pub unfinished : (p : Plan) (head : List ℕ) (count : ℕ) (old new : Meaning) → HasWhole p head count (bytes_of old) (bytes_of new) → IsHaltedByFault p head (bytes_of old) (bytes_of new)
 unfinished p head count old new whole = record { bytes = whole.bytes; of = inr whole.whole; some = all_front (bytes_of old) (bytes_of new) whole.bytes whole.written }
 
-pub file_unfinished : (p : Plan) (name : Text) (head : List ℕ) (count : ℕ) (h : Halt) (e : Refused) (old created new : Meaning) → IsHead p head → created ≡ after_create name old → h ≡ halt_of e
+pub file_unfinished : (p : Plan) (name : List ℕ) (head : List ℕ) (count : ℕ) (h : Halt) (e : Refused) (old created new : Meaning) → IsHead p head → created ≡ after_create name old → h ≡ halt_of e
     → HasWhole p head count (bytes_of created) (bytes_of new) → told_beside new ≡ told_beside created → IsFileHalted p name h old new
 file_unfinished p name head count h e old created new of is why whole beside =
     fault_begun p name h old new (halt_fault h e why) (begun_at p name head old created new of is (unfinished p head count created new whole) beside)
 
-pub nothing_begun : (p : Plan) (name : Text) (m : Meaning) → IsFileBegun p name m m
+pub nothing_begun : (p : Plan) (name : List ℕ) (m : Meaning) → IsFileBegun p name m m
 nothing_begun p name m = inl (untouched m)
 
-pub file_uncreated : (p : Plan) (name : Text) (h : Halt) (old new : Meaning) → IsFault h → new ≡ old → IsFileHalted p name h old new
+pub file_uncreated : (p : Plan) (name : List ℕ) (h : Halt) (old new : Meaning) → IsFault h → new ≡ old → IsFileHalted p name h old new
 file_uncreated p name h old new fault same = fault_begun p name h old new fault (inl (untouched_as old new same))
 
 -- nothing was created where the lengths weren't found
-pub file_unmeasured : (p : Plan) (name : Text) (h : Halt) (m : Meaning) → p.wanted.marks.tlm ≡ true → IsUnmeasured p h → IsFileHalted p name h m m
+pub file_unmeasured : (p : Plan) (name : List ℕ) (h : Halt) (m : Meaning) → p.wanted.marks.tlm ≡ true → IsUnmeasured p h → IsFileHalted p name h m m
 file_unmeasured p name (halt.Bad tile number) m asked of = inr (record { asked = asked; of = of; same = untouched m })
 file_unmeasured p name (halt.TooLong tile) m asked of = inr (record { asked = asked; of = of; same = untouched m })
 file_unmeasured p name halt.Failed m asked never = absurd never
