@@ -80,10 +80,10 @@ A line for each fact: its name, a colon and its value. First whether the file
 is a codestream or a JP2 file, its brand and the names of its boxes; then the
 picture, its tiles and components; what the main header says; packets,
 code-blocks, tile-parts, comments and the bytes of the code-blocks, and whether
-PLT, PLM and TLM stand; then what each tile says itself. For a tile and a
-component the most specific line holds: that of both, else of the tile, else of
-the component, else of neither. Lines of progression hold together, in place of
-the order.
+PLT, PLM, PPM, PPT and TLM stand; then what each tile says itself. For a tile
+and a component the most specific line holds: that of both, else of the tile,
+else of the component, else of neither. Lines of progression hold together, in
+place of the order.
 
 With --json the same facts are the members of one object, under the same
 names. Two numbers are a list, yes is true, no is false.

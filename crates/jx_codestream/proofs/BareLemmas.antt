@@ -23,7 +23,7 @@ pub map_same : (f g : ℕ → CompShape) (xs : List ℕ) → ((x : ℕ) → f x 
 map_same f g [] h = refl
 map_same f g (x ∷ xs) h = rw (h x, map_same f g xs h) refl
 
-pub own_gives : (k comp : ℕ) → 4 < k → gives (k + 3 * comp) ≡ true
+pub own_gives : (k comp : ℕ) → 260 < k → gives (k + 3 * comp) ≡ true
 own_gives k comp h = grind (arith, nat_tests)
 
 module _ (own : List Segment) (bare : IsBare own) where
@@ -31,13 +31,13 @@ module _ (own : List Segment) (bare : IsBare own) where
   chosen_bare slot default main a b = rw (bare slot a, bare default b) refl
 
   pub shape_bare : (main : List Segment) (comp : ℕ) → shape_of own main comp ≡ shape_of [] main comp
-  shape_bare main comp = ap shape_in (chosen_bare (5 + 3 * comp) 1 main (own_gives 5 comp (omega arith)) refl)
+  shape_bare main comp = ap shape_in (chosen_bare (261 + 3 * comp) 1 main (own_gives 261 comp (omega arith)) refl)
 
   pub quant_bare : (main : List Segment) (comp : ℕ) → quant_of own main comp ≡ quant_of [] main comp
-  quant_bare main comp = ap quant_in (chosen_bare (6 + 3 * comp) 2 main (own_gives 6 comp (omega arith)) refl)
+  quant_bare main comp = ap quant_in (chosen_bare (262 + 3 * comp) 2 main (own_gives 262 comp (omega arith)) refl)
 
   pub shift_bare : (main : List Segment) (comp : ℕ) → shift_of own main comp ≡ shift_of [] main comp
-  shift_bare main comp = ap (λ (x : Option Segment). shift_in (option_or x (in_slot (7 + 3 * comp) main))) (bare (7 + 3 * comp) (own_gives 7 comp (omega arith)))
+  shift_bare main comp = ap (λ (x : Option Segment). shift_in (option_or x (in_slot (263 + 3 * comp) main))) (bare (263 + 3 * comp) (own_gives 263 comp (omega arith)))
 
   pub cod_bare : (main : List Segment) → cod_of own main ≡ cod_of [] main
   cod_bare main = ap (λ (x : Option Segment). cod_in (option_or x (in_slot 1 main))) (bare 1 refl)

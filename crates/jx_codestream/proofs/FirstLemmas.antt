@@ -1,5 +1,5 @@
 -- The first violation of a file, by what was read before it.
-use Rattle.std.proofs.Common.{◌≡◌, ◌∙◌, ◌<◌, ◌==◌, ◌||◌, ◌&&◌, ℕ, Bool, true, false, not, arith, List, [], ◌∷◌, length, drop, map, get_or, refl, sym, ap, Some, None, Result, Err}
+use Rattle.std.proofs.Common.{◌≡◌, ◌∙◌, ◌<◌, ◌==◌, ◌||◌, ◌&&◌, ℕ, Bool, true, false, not, arith, List, [], ◌∷◌, length, drop, map, get_or, refl, sym, ap, Option, Some, None, Result, Err}
 use Rattle.std.specs.List.{list_any, range_with_len}
 use Rattle.std.specs.Option.{option_or}
 use Rattle.std.proofs.lemmas.List.{get_or-drop}
@@ -21,11 +21,14 @@ use Rattle.jx_codestream.specs.declared.parts.PlacedPart.{PlacedPart}
 use Rattle.jx_codestream.specs.declared.Stream.{Stream}
 use Rattle.jx_codestream.specs.declared.Tile.{Tile}
 use Rattle.jx_codestream.specs.Faults.{broken, fault_of, IsCause}
-use Rattle.jx_codestream.specs.Headers.{header_fault, slot_count, MarksSlots}
-use Rattle.jx_codestream.specs.Parts.{marker_at, parts_of, parts_fault, parts_from, Tracks}
+use Rattle.jx_codestream.specs.Headers.{has_packed, header_fault, slot_count, MarksSlots}
+use Rattle.jx_codestream.specs.declared.packed.PackedSegment.{PackedSegment}
+use Rattle.jx_codestream.specs.PackedHeaders.{shares_fault, with_shares}
+use Rattle.jx_codestream.specs.Parts.{marker_at, Parts, parts_of, parts_fault, parts_from, Tracks}
 use Rattle.jx_codestream.specs.Tiles.{tiles_of}
 use Rattle.jx_codestream.specs.Params.{entries_fault, planes_fault}
-use Rattle.jx_codestream.specs.First.{tile_number, siz_of, after_siz, front_fault, tiles_fault, lacks_default, main_header, main_fault, parts_after, lacks_part, body_fault, stream_from, stream_in, parameters_fault, later_fault, first_fault}
+use Rattle.jx_codestream.specs.First.{tile_number, siz_of, after_siz, front_fault, tiles_fault, lacks_default, main_header, main_fault, packed_after, parts_after, lacks_part, body_fault, stream_from, stream_in, parameters_fault, later_fault, first_fault}
+use Rattle.jx_codestream.proofs.SharesLemmas.{packed_is}
 use Rattle.jx_codestream.proofs.FaultLemmas.{cause_first, cause_later, cause_same, none_of_both, broken_true, broken_false}
 use Rattle.std.proofs.lemmas.Bool.{and_parts, eqb-true}
 
@@ -83,36 +86,92 @@ lacks_by_table comps start segments seen found marks size is =
 -- the body
 
 module _ (comps tiles : ℕ) (b : List ℕ) (start : ℕ) where
+  -- the tests that come after the main header, the tile-parts and rule 24
+  abbrev pub parts_test : Option StreamFault
+  parts_test = parts_fault (has_packed (main_header comps b start).segments) comps tiles b (main_header comps b start).end
+
+  abbrev pub lacks_test : Option StreamFault
+  lacks_test = broken NO_PART (parts_after comps tiles b start).end (lacks_part (parts_after comps tiles b start).parts tiles)
+
+  abbrev pub shares_test : Option StreamFault
+  shares_test = shares_fault b (packed_after comps b start) (parts_after comps tiles b start).parts
+
   pub body_main : (e : StreamFault) → IsCause e (main_fault comps b start) → IsCause e (body_fault comps tiles b start)
   unfolding body_fault
-  body_main e h = cause_first e (main_fault comps b start) (option_or (parts_fault comps tiles b (main_header comps b start).end) (broken NO_PART (parts_after comps tiles b start).end (lacks_part (parts_after comps tiles b start).parts tiles))) h
+  body_main e h = cause_first e (main_fault comps b start) (option_or parts_test (option_or lacks_test shares_test)) h
 
-  pub body_parts : (e : StreamFault) (main : Header) → main_fault comps b start ≡ None → main ≡ main_header comps b start → IsCause e (parts_fault comps tiles b main.end) → IsCause e (body_fault comps tiles b start)
-  unfolding body_fault
-  body_parts e main clear is h =
-      cause_later e (main_fault comps b start) (option_or (parts_fault comps tiles b (main_header comps b start).end) (broken NO_PART (parts_after comps tiles b start).end (lacks_part (parts_after comps tiles b start).parts tiles))) clear
-      (cause_first e (parts_fault comps tiles b (main_header comps b start).end) (broken NO_PART (parts_after comps tiles b start).end (lacks_part (parts_after comps tiles b start).parts tiles))
-      (cause_same e (parts_fault comps tiles b main.end) (parts_fault comps tiles b (main_header comps b start).end) (ap (λ (h : Header). parts_fault comps tiles b h.end) is) h))
+  parts_same_test : (main : Header) (some : Bool) → main ≡ main_header comps b start → some ≡ has_packed main.segments → parts_fault some comps tiles b main.end ≡ parts_test
+  parts_same_test main some is packed =
+      ap (λ (x : Bool). parts_fault x comps tiles b main.end) packed ∙ ap (λ (h : Header). parts_fault (has_packed h.segments) comps tiles b h.end) is
 
-  pub body_24 : (main : Header) (parts : List PlacedPart) (eoc : ℕ) → main_fault comps b start ≡ None → main ≡ main_header comps b start → parts_fault comps tiles b main.end ≡ None
-      → parts ≡ (parts_from comps tiles b main.end).parts → eoc ≡ (parts_from comps tiles b main.end).end → lacks_part parts tiles ≡ true → body_fault comps tiles b start ≡ Some (fault.Rule NO_PART eoc)
-  unfolding body_fault
-  body_24 main parts eoc clear is none all end lacks =
-      let no_part : parts_fault comps tiles b (main_header comps b start).end ≡ None = sym (ap (λ (h : Header). parts_fault comps tiles b h.end) is) ∙ none in
-      let here : parts ≡ (parts_after comps tiles b start).parts = all ∙ ap (λ (h : Header). (parts_from comps tiles b h.end).parts) is in
-      let stop : eoc ≡ (parts_after comps tiles b start).end = end ∙ ap (λ (h : Header). (parts_from comps tiles b h.end).end) is in
-      rw (clear, no_part) (broken_true NO_PART (parts_after comps tiles b start).end (lacks_part (parts_after comps tiles b start).parts tiles) (sym (ap (λ (x : List PlacedPart). lacks_part x tiles) here) ∙ lacks)
-      ∙ ap (λ (n : ℕ). Some (fault.Rule NO_PART n)) (sym stop))
+  after_same : (main : Header) (some : Bool) → main ≡ main_header comps b start → some ≡ has_packed main.segments → parts_from some comps tiles b main.end ≡ parts_after comps tiles b start
+  after_same main some is packed =
+      ap (λ (x : Bool). parts_from x comps tiles b main.end) packed ∙ ap (λ (h : Header). parts_from (has_packed h.segments) comps tiles b h.end) is
 
-  pub body_clear : (main : Header) (parts : List PlacedPart) → main_fault comps b start ≡ None → main ≡ main_header comps b start → parts_fault comps tiles b main.end ≡ None
-      → parts ≡ (parts_from comps tiles b main.end).parts → lacks_part parts tiles ≡ false → (body_fault comps tiles b start ≡ None) × (parts ≡ (parts_after comps tiles b start).parts)
+  pub body_parts : (e : StreamFault) (main : Header) (some : Bool) → main_fault comps b start ≡ None → main ≡ main_header comps b start → some ≡ has_packed main.segments
+      → IsCause e (parts_fault some comps tiles b main.end) → IsCause e (body_fault comps tiles b start)
   unfolding body_fault
-  body_clear main parts clear is none all lacks =
-      let no_part : parts_fault comps tiles b (main_header comps b start).end ≡ None = sym (ap (λ (h : Header). parts_fault comps tiles b h.end) is) ∙ none in
-      let here : parts ≡ (parts_after comps tiles b start).parts = all ∙ ap (λ (h : Header). (parts_from comps tiles b h.end).parts) is in (
-        rw (clear, no_part) (broken_false NO_PART (parts_after comps tiles b start).end (lacks_part (parts_after comps tiles b start).parts tiles) (sym (ap (λ (x : List PlacedPart). lacks_part x tiles) here) ∙ lacks)),
-        here,
-      )
+  body_parts e main some clear is packed h =
+      cause_later e (main_fault comps b start) (option_or parts_test (option_or lacks_test shares_test)) clear
+      (cause_first e parts_test (option_or lacks_test shares_test)
+      (cause_same e (parts_fault some comps tiles b main.end) parts_test (parts_same_test main some is packed) h))
+
+  pub body_24 : (main : Header) (some : Bool) (parts : List PlacedPart) (eoc : ℕ) → main_fault comps b start ≡ None → main ≡ main_header comps b start → some ≡ has_packed main.segments
+      → parts_fault some comps tiles b main.end ≡ None → parts ≡ (parts_from some comps tiles b main.end).parts → eoc ≡ (parts_from some comps tiles b main.end).end → lacks_part parts tiles ≡ true
+      → body_fault comps tiles b start ≡ Some (fault.Rule NO_PART eoc)
+  unfolding body_fault
+  body_24 main some parts eoc clear is packed none all end lacks =
+      let no_part : parts_test ≡ None = sym (parts_same_test main some is packed) ∙ none in
+      let here : parts ≡ (parts_after comps tiles b start).parts = all ∙ ap (λ (x : Parts). x.parts) (after_same main some is packed) in
+      let stop : eoc ≡ (parts_after comps tiles b start).end = end ∙ ap (λ (x : Parts). x.end) (after_same main some is packed) in
+      let found : lacks_test ≡ Some (fault.Rule NO_PART eoc) =
+      broken_true NO_PART (parts_after comps tiles b start).end (lacks_part (parts_after comps tiles b start).parts tiles) (sym (ap (λ (x : List PlacedPart). lacks_part x tiles) here) ∙ lacks)
+      ∙ ap (λ (n : ℕ). Some (fault.Rule NO_PART n)) (sym stop) in
+      rw (clear, no_part, found) refl
+
+  -- the tile-parts are there, and each tile has one
+  pub record AreThere (parts : List PlacedPart) (packed : List PackedSegment) : Type 0 where
+    pub main : main_fault comps b start ≡ None
+    pub none : parts_test ≡ None
+    pub each : lacks_test ≡ None
+    pub all : parts ≡ (parts_after comps tiles b start).parts
+    pub own : packed ≡ packed_after comps b start
+
+  pub are_there : (main : Header) (some : Bool) (parts : List PlacedPart) (packed : List PackedSegment) → main_fault comps b start ≡ None → main ≡ main_header comps b start
+      → some ≡ has_packed main.segments → parts_fault some comps tiles b main.end ≡ None → parts ≡ (parts_from some comps tiles b main.end).parts → lacks_part parts tiles ≡ false
+      → packed ≡ packed_after comps b start → AreThere parts packed
+  are_there main some parts packed clear is apart none all lacks own =
+      let here : parts ≡ (parts_after comps tiles b start).parts = all ∙ ap (λ (x : Parts). x.parts) (after_same main some is apart) in
+      record {
+        main = clear;
+        none = sym (parts_same_test main some is apart) ∙ none;
+        each = broken_false NO_PART (parts_after comps tiles b start).end (lacks_part (parts_after comps tiles b start).parts tiles) (sym (ap (λ (x : List PlacedPart). lacks_part x tiles) here) ∙ lacks);
+        all = here;
+        own = own;
+      }
+
+  shares_same : (parts : List PlacedPart) (packed : List PackedSegment) → AreThere parts packed → shares_fault b packed parts ≡ shares_test
+  shares_same parts packed are = ap (λ (x : List PackedSegment). shares_fault b x parts) are.own ∙ ap (λ (x : List PlacedPart). shares_fault b (packed_after comps b start) x) are.all
+
+  pub body_shares : (e : StreamFault) (parts : List PlacedPart) (packed : List PackedSegment) → AreThere parts packed → IsCause e (shares_fault b packed parts) → IsCause e (body_fault comps tiles b start)
+  unfolding body_fault
+  body_shares e parts packed are h =
+      cause_later e (main_fault comps b start) (option_or parts_test (option_or lacks_test shares_test)) are.main
+      (cause_later e parts_test (option_or lacks_test shares_test) are.none
+      (cause_later e lacks_test shares_test are.each (cause_same e (shares_fault b packed parts) shares_test (shares_same parts packed are) h)))
+
+  pub body_clear : (parts shared : List PlacedPart) (packed : List PackedSegment) → AreThere parts packed → shares_fault b packed parts ≡ None → shared ≡ with_shares b packed parts
+      → (body_fault comps tiles b start ≡ None) × (shared ≡ with_shares b (packed_after comps b start) (parts_after comps tiles b start).parts)
+  unfolding body_fault
+  body_clear parts shared packed are none made = (
+    rw (are.main, are.none, are.each) (sym (shares_same parts packed are) ∙ none),
+    made ∙ ap (λ (x : List PackedSegment). with_shares b x parts) are.own ∙ ap (λ (x : List PlacedPart). with_shares b (packed_after comps b start) x) are.all,
+  )
+
+pub some_packed : (comps : ℕ) (b : List ℕ) (start : ℕ) (main : Header) (packed : List PackedSegment) (none : Bool) → main ≡ main_header comps b start → packed ≡ packed_after comps b start
+    → none ≡ (length packed == 0) → not none ≡ has_packed main.segments
+some_packed comps b start main packed none is own empty =
+    ap not (empty ∙ ap (λ (x : List PackedSegment). length x == 0) own) ∙ sym (packed_is comps start (main_header comps b start).segments) ∙ ap (λ (h : Header). has_packed h.segments) (sym is)
 
 any_mapped : (p : ℕ → Bool) (f : ℕ → ℕ) (xs : List ℕ) → list_any p (map f xs) ≡ list_any (λ (x : ℕ). p (f x)) xs
 any_mapped p f [] = refl
@@ -141,7 +200,7 @@ later_body siz b start comps tiles e clear is count h =
     (ap (λ (n : ℕ). body_fault n tiles b start) is ∙ ap (λ (n : ℕ). body_fault (length siz.comps) n b start) count) h))
 
 pub stream_is : (siz : Siz) (b : List ℕ) (start comps count : ℕ) (main : List Segment) (parts : List PlacedPart) (tiles : List Tile) → comps ≡ length siz.comps → count ≡ tile_number siz
-    → main ≡ (main_header comps b start).segments → parts ≡ (parts_after comps count b start).parts → tiles ≡ tiles_of main parts count
+    → main ≡ (main_header comps b start).segments → parts ≡ with_shares b (packed_after comps b start) (parts_after comps count b start).parts → tiles ≡ tiles_of main parts count
     → ◌≡◌ {A = Stream} (record { siz = siz; main = main; tiles = tiles }) (stream_from siz b start)
 unfolding stream_from
 stream_is siz b start comps count main parts tiles is number of all made = rw (made, all, of, is, number) refl

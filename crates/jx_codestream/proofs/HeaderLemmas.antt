@@ -9,17 +9,17 @@ use Rattle.jx_marker.specs.declared.Rule.{Rule}
 use Rattle.jx_marker.specs.declared.Rule.TheVariants as rule
 use Rattle.jx_marker.specs.declared.Segment.TheVariants as segment
 use Rattle.jx_marker.specs.declared.Segment.{Segment}
-use Rattle.jx_marker.specs.Rules.{first_broken, breaks_2, breaks_14, breaks_1}
+use Rattle.jx_marker.specs.Rules.{first_broken, breaks_2, breaks_1}
 use Rattle.jx_marker.specs.Segments.{segment_at, size_at, code_at, length_at}
 use Rattle.jx_marker.specs.Markers.{has_length}
 use Rattle.jx_marker.specs.Ranges.{InRange}
-use Rattle.jx_marker.specs.RuleNumbers.{LENGTH, MISPLACED, TWICE}
+use Rattle.jx_marker.specs.RuleNumbers.{LENGTH, MISPLACED, PACKED_HEADERS, TWICE}
 use Rattle.jx_codestream.specs.declared.faults.StreamFault.{StreamFault}
 use Rattle.jx_codestream.specs.declared.faults.StreamFault.TheVariants as fault
 use Rattle.jx_codestream.specs.declared.headers.HeaderKind.{HeaderKind}
 use Rattle.jx_codestream.specs.declared.headers.Header.{Header}
 use Rattle.jx_codestream.specs.Faults.{fault_of, IsCause}
-use Rattle.jx_codestream.specs.Headers.{stands_in, ends_header, slot_of, slot_count, has_slot, is_second, early_fault, segment_fault, stops, longest, header_at, header_fault, MarksSlots}
+use Rattle.jx_codestream.specs.Headers.{stands_in, ends_header, is_packed_twice, slot_of, slot_count, has_slot, is_second, early_fault, segment_fault, stops, longest, header_at, header_fault, MarksSlots}
 use Rattle.jx_codestream.proofs.FaultLemmas.{broken_false, broken_true}
 use Rattle.std.proofs.lemmas.Bool.{cases_Bool, cases_eq, eq-eqb, ne_eqb, or_right, le-ltb}
 use Rattle.jx_base.proofs.Tests.{or_false}
@@ -32,13 +32,20 @@ ends_once before _ h = absurd (cc)
 
 -- the first violation at a place, before rule 18
 
-pub early_clear : (kind : HeaderKind) (comps : ℕ) (b : List ℕ) (at : ℕ) → first_broken comps (drop at b) ≡ None → stands_in kind (segment_at comps (drop at b)) ≡ true → early_fault kind comps b at ≡ None
+pub early_clear : (kind : HeaderKind) (comps : ℕ) (b : List ℕ) (at : ℕ) → first_broken comps (drop at b) ≡ None → is_packed_twice kind (segment_at comps (drop at b)) ≡ false
+    → stands_in kind (segment_at comps (drop at b)) ≡ true → early_fault kind comps b at ≡ None
 unfolding early_fault
-early_clear kind comps b at clear stands = rw (clear, stands) refl
+early_clear kind comps b at clear once stands = rw (clear, once, stands) refl
 
-pub early_19 : (kind : HeaderKind) (comps : ℕ) (b : List ℕ) (at : ℕ) → first_broken comps (drop at b) ≡ None → stands_in kind (segment_at comps (drop at b)) ≡ false → early_fault kind comps b at ≡ Some (fault.Rule MISPLACED at)
+pub early_14 : (kind : HeaderKind) (comps : ℕ) (b : List ℕ) (at : ℕ) → first_broken comps (drop at b) ≡ None → is_packed_twice kind (segment_at comps (drop at b)) ≡ true
+    → early_fault kind comps b at ≡ Some (fault.Rule PACKED_HEADERS at)
 unfolding early_fault
-early_19 kind comps b at clear stands = rw (clear, stands) refl
+early_14 kind comps b at clear twice = rw (clear, twice) refl
+
+pub early_19 : (kind : HeaderKind) (comps : ℕ) (b : List ℕ) (at : ℕ) → first_broken comps (drop at b) ≡ None → is_packed_twice kind (segment_at comps (drop at b)) ≡ false
+    → stands_in kind (segment_at comps (drop at b)) ≡ false → early_fault kind comps b at ≡ Some (fault.Rule MISPLACED at)
+unfolding early_fault
+early_19 kind comps b at clear once stands = rw (clear, once, stands) refl
 
 pub early_broken : (kind : HeaderKind) (comps : ℕ) (b : List ℕ) (at m : ℕ) → first_broken comps (drop at b) ≡ Some m → early_fault kind comps b at ≡ Some (fault.Rule m at)
 unfolding early_fault
@@ -52,7 +59,7 @@ early_cause kind comps b at rule.NoMemory x is h = tt
 -- fewer bytes than a marker has
 
 end_breaks : (comps : ℕ) (rest : List ℕ) → rest ≡ [] → first_broken comps rest ≡ Some LENGTH
-unfolding breaks_2 breaks_14 breaks_1
+unfolding breaks_2 breaks_1
 end_breaks comps rest h = rw h refl
 
 two_more : (b : Bool) (n : ℕ) → 2 ≤ (cond b (2 + n) 2)
@@ -250,6 +257,8 @@ pub slot_inside : (comps : ℕ) (s : Segment) → InRange comps s → slot_of s 
 slot_inside comps (segment.Coc comp shape) range = omega (arith, range.index)
 slot_inside comps (segment.Qcc comp quant) range = omega (arith, range.index)
 slot_inside comps (segment.Rgn comp shift) range = omega (arith, range.index)
+slot_inside comps (segment.Ppm index bytes) range = omega (arith, range.index_fits)
+slot_inside comps (segment.Ppt index bytes) range = omega (arith, range.index_fits)
 slot_inside comps _ range = omega arith
 
 pub second_at : (comps start : ℕ) (before : List Segment) (s : Segment) (slot : ℕ) (seen : List ℕ) (found : Bool) → slot ≡ slot_of s → InRange comps s

@@ -24,3 +24,6 @@ mod ViewLemmas
 mod PutLemmas
 pub mod KindLemmas
 mod BandLemmas
+mod PackedLemmas
+pub mod SharesLemmas
+pub mod PieceLemmas

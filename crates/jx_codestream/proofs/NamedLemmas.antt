@@ -1,8 +1,9 @@
 -- A tile whose header has no COD and no QCD has the main header's parameters but for the components that its segments name.
-use Rattle.std.proofs.Common.{◌≡◌, ◌<◌, ◌≤◌, ◌+◌, ◌*◌, ◌==◌, ◌⊎◌, ℕ, Bool, true, false, nat_lt, arith, List, [], ◌∷◌, add-one, ap, drop, length, suc, get_or, refl, subst, sym, ◌∙◌, Option, Some, None, inl, inr}
+use Rattle.std.proofs.Common.{◌≡◌, ◌<◌, ◌≤◌, ◌+◌, ◌*◌, ◌%◌, ◌==◌, ◌⊎◌, ℕ, Bool, true, false, nat_lt, arith, List, [], ◌∷◌, add-one, ap, drop, length, suc, get_or, refl, subst, sym, ◌∙◌, Option, Some, None, inl, inr}
 use Rattle.std.specs.List.{find, flat_map, list_any, range_with_len}
 use Rattle.std.specs.Option.{option_or, is_some}
-use Rattle.std.proofs.lemmas.Bool.{cases_Bool, eqb-true, or_parts}
+use Rattle.std.proofs.lemmas.Bool.{cases_Bool, eqb-true, ne_eqb, or_parts}
+use Rattle.std.proofs.Math.Nat.{mod-lt}
 use Rattle.std.proofs.lemmas.Bool.Decides.{nat_tests}
 use Rattle.std.proofs.lemmas.List.{drop_all}
 use Rattle.std.proofs.lemmas.Option.{same_Some}
@@ -15,8 +16,15 @@ use Rattle.jx_codestream.specs.Tiles.{in_slot}
 use Rattle.jx_codestream.specs.Index.{comp_named, has_default, has_named, is_comp, is_default}
 use Rattle.jx_codestream.specs.Params.{band_planes, has_too_few, header_has_too_few, header_planes, quant_of, shape_of, shift_of}
 
+-- a PPM or a PPT has a lower slot
+packed_below : (index n : ℕ) → 260 < n → (5 + index % 256 == n) ≡ false
+packed_below index n h = let low : index % 256 < 256 = mod-lt index (omega arith) in ne_eqb (5 + index % 256) n (λ e. absurd (omega arith))
+
+packed_above : (index n : ℕ) → n < 5 → (5 + index % 256 == n) ≡ false
+packed_above index n h = ne_eqb (5 + index % 256) n (λ e. absurd (omega (arith, e)))
+
 -- a segment of another slot
-other_slot : (s : Segment) (comp k n : ℕ) → is_comp comp (comp_named s) ≡ false → (4 < k) → (k < 8) → n ≡ k + 3 * comp → (slot_of s == n) ≡ false
+other_slot : (s : Segment) (comp k n : ℕ) → is_comp comp (comp_named s) ≡ false → (260 < k) → (k < 264) → n ≡ k + 3 * comp → (slot_of s == n) ≡ false
 other_slot (segment.Cod cod) comp k n i low high e = grind (arith, nat_tests)
 other_slot (segment.Qcd quant) comp k n i low high e = grind (arith, nat_tests)
 other_slot (segment.Coc c shape) comp k n i low high e = grind (arith, nat_tests)
@@ -24,6 +32,8 @@ other_slot (segment.Qcc c quant) comp k n i low high e = grind (arith, nat_tests
 other_slot (segment.Rgn c shift) comp k n i low high e = grind (arith, nat_tests)
 other_slot (segment.Poc entries) comp k n i low high e = grind (arith, nat_tests)
 other_slot (segment.Crg bytes) comp k n i low high e = grind (arith, nat_tests)
+other_slot (segment.Ppm index bytes) comp k n i low high e = packed_below index n (omega arith)
+other_slot (segment.Ppt index bytes) comp k n i low high e = packed_below index n (omega arith)
 other_slot _ comp k n i low high e = grind (arith, nat_tests)
 
 not_cod : (s : Segment) → is_default s ≡ false → (slot_of s == 1) ≡ false
@@ -32,6 +42,8 @@ not_cod (segment.Qcd quant) h = absurd (cc)
 not_cod (segment.Coc c shape) h = grind (arith, nat_tests)
 not_cod (segment.Qcc c quant) h = grind (arith, nat_tests)
 not_cod (segment.Rgn c shift) h = grind (arith, nat_tests)
+not_cod (segment.Ppm index bytes) h = packed_above index 1 (omega arith)
+not_cod (segment.Ppt index bytes) h = packed_above index 1 (omega arith)
 not_cod _ h = grind (arith, nat_tests)
 
 not_qcd : (s : Segment) → is_default s ≡ false → (slot_of s == 2) ≡ false
@@ -40,6 +52,8 @@ not_qcd (segment.Qcd quant) h = absurd (cc)
 not_qcd (segment.Coc c shape) h = grind (arith, nat_tests)
 not_qcd (segment.Qcc c quant) h = grind (arith, nat_tests)
 not_qcd (segment.Rgn c shift) h = grind (arith, nat_tests)
+not_qcd (segment.Ppm index bytes) h = packed_above index 2 (omega arith)
+not_qcd (segment.Ppt index bytes) h = packed_above index 2 (omega arith)
 not_qcd _ h = grind (arith, nat_tests)
 
 no_default : (n : ℕ) (ss : List Segment) → ((s : Segment) → is_default s ≡ false → (slot_of s == n) ≡ false) → has_default ss ≡ false → in_slot n ss ≡ None
@@ -48,7 +62,7 @@ no_default n (s ∷ ss) apart none =
     let both = or_parts (is_default s) (list_any is_default ss) none in
     rw (apart s both.0) (no_default n ss apart both.1)
 
-pub no_own : (comp k : ℕ) (ss : List Segment) → 4 < k → k < 8 → has_named comp ss ≡ false → in_slot (k + 3 * comp) ss ≡ None
+pub no_own : (comp k : ℕ) (ss : List Segment) → 260 < k → k < 264 → has_named comp ss ≡ false → in_slot (k + 3 * comp) ss ≡ None
 no_own comp k [] low high unnamed = refl
 no_own comp k (s ∷ ss) low high unnamed =
     let named = or_parts (is_comp comp (comp_named s)) (has_named comp ss) unnamed in
@@ -56,13 +70,13 @@ no_own comp k (s ∷ ss) low high unnamed =
 
 module _ (own main : List Segment) (comp : ℕ) (none : has_default own ≡ false) (unnamed : has_named comp own ≡ false) where
   spared_shape : shape_of own main comp ≡ shape_of [] main comp
-  spared_shape = rw (no_own comp 5 own (omega arith) (omega arith) unnamed, no_default 1 own not_cod none) refl
+  spared_shape = rw (no_own comp 261 own (omega arith) (omega arith) unnamed, no_default 1 own not_cod none) refl
 
   spared_quant : quant_of own main comp ≡ quant_of [] main comp
-  spared_quant = rw (no_own comp 6 own (omega arith) (omega arith) unnamed, no_default 2 own not_qcd none) refl
+  spared_quant = rw (no_own comp 262 own (omega arith) (omega arith) unnamed, no_default 2 own not_qcd none) refl
 
   spared_shift : shift_of own main comp ≡ shift_of [] main comp
-  spared_shift = rw (no_own comp 7 own (omega arith) (omega arith) unnamed) refl
+  spared_shift = rw (no_own comp 263 own (omega arith) (omega arith) unnamed) refl
 
 -- where one test fails or is that of the other, none holds
 any_alike : (f g : ℕ → Bool) (xs : List ℕ) → ((x : ℕ) → (f x ≡ false) ⊎ (f x ≡ g x)) → list_any g xs ≡ false → list_any f xs ≡ false

@@ -19,8 +19,10 @@ use Rattle.jx_codestream.specs.declared.faults.StreamFault.{StreamFault}
 use Rattle.jx_codestream.specs.declared.faults.StreamFault.TheVariants as fault
 use Rattle.jx_codestream.specs.declared.headers.Header.{Header}
 use Rattle.jx_codestream.specs.declared.parts.PlacedPart.{PlacedPart}
+use Rattle.jx_codestream.specs.declared.Body.{Body}
 use Rattle.jx_codestream.specs.Faults.{broken, fault_of, IsCause}
 use Rattle.jx_codestream.specs.Headers.{header_at, header_fault}
+use Rattle.jx_codestream.specs.PackedHeaders.{heads_in}
 use Rattle.jx_codestream.specs.Parts.{marker_at, sot_in, after_sot, kind_of, parts_of, told_other, is_out_of_turn, comes_out_of_turn, tables_say, start_fault, sot_fault, sod_fault, has_wrong_length, end_of, part_header, part_at, part_fault, fault_after, end_of_part, parts_stop, Parts, longest_parts, parts_from, parts_fault, Tracks}
 use Rattle.jx_codestream.proofs.FaultLemmas.{cause_first, cause_later, none_first, none_later, broken_none}
 use Rattle.jx_codestream.proofs.HeaderLemmas.{size_is_two, longest_rises}
@@ -59,54 +61,55 @@ start_missing comps b at lacks goes = rw (lacks, goes) refl
 
 -- what is violated first in a tile-part
 
-module _ (comps tiles : ℕ) (b : List ℕ) (out : Bool) (at : ℕ) where
-  pub part_start : (e : StreamFault) → IsCause e (start_fault comps b at) → IsCause e (part_fault comps tiles b out at)
+module _ (packed : Bool) (comps tiles : ℕ) (b : List ℕ) (out : Bool) (at : ℕ) where
+  pub part_start : (e : StreamFault) → IsCause e (start_fault comps b at) → IsCause e (part_fault packed comps tiles b out at)
   unfolding part_fault
-  part_start e h = cause_first e (start_fault comps b at) (option_or (sot_fault tiles b at (sot_in b at) out) (option_or (header_fault (kind_of (sot_in b at)) comps b (after_sot b at)) (sod_fault b at (sot_in b at) (part_header comps b at).end))) h
+  part_start e h = cause_first e (start_fault comps b at) (option_or (sot_fault tiles b at (sot_in b at) out) (option_or (header_fault (kind_of packed (sot_in b at)) comps b (after_sot b at)) (sod_fault b at (sot_in b at) (part_header packed comps b at).end))) h
 
-  pub part_sot : (e : StreamFault) → start_fault comps b at ≡ None → IsCause e (sot_fault tiles b at (sot_in b at) out) → IsCause e (part_fault comps tiles b out at)
+  pub part_sot : (e : StreamFault) → start_fault comps b at ≡ None → IsCause e (sot_fault tiles b at (sot_in b at) out) → IsCause e (part_fault packed comps tiles b out at)
   unfolding part_fault
   part_sot e start h =
-      cause_later e (start_fault comps b at) (option_or (sot_fault tiles b at (sot_in b at) out) (option_or (header_fault (kind_of (sot_in b at)) comps b (after_sot b at)) (sod_fault b at (sot_in b at) (part_header comps b at).end))) start
-      (cause_first e (sot_fault tiles b at (sot_in b at) out) (option_or (header_fault (kind_of (sot_in b at)) comps b (after_sot b at)) (sod_fault b at (sot_in b at) (part_header comps b at).end)) h)
+      cause_later e (start_fault comps b at) (option_or (sot_fault tiles b at (sot_in b at) out) (option_or (header_fault (kind_of packed (sot_in b at)) comps b (after_sot b at)) (sod_fault b at (sot_in b at) (part_header packed comps b at).end))) start
+      (cause_first e (sot_fault tiles b at (sot_in b at) out) (option_or (header_fault (kind_of packed (sot_in b at)) comps b (after_sot b at)) (sod_fault b at (sot_in b at) (part_header packed comps b at).end)) h)
 
   pub part_head : (e : StreamFault) → start_fault comps b at ≡ None → sot_fault tiles b at (sot_in b at) out ≡ None
-      → IsCause e (header_fault (kind_of (sot_in b at)) comps b (after_sot b at)) → IsCause e (part_fault comps tiles b out at)
+      → IsCause e (header_fault (kind_of packed (sot_in b at)) comps b (after_sot b at)) → IsCause e (part_fault packed comps tiles b out at)
   unfolding part_fault
   part_head e start sot h =
-      cause_later e (start_fault comps b at) (option_or (sot_fault tiles b at (sot_in b at) out) (option_or (header_fault (kind_of (sot_in b at)) comps b (after_sot b at)) (sod_fault b at (sot_in b at) (part_header comps b at).end))) start
-      (cause_later e (sot_fault tiles b at (sot_in b at) out) (option_or (header_fault (kind_of (sot_in b at)) comps b (after_sot b at)) (sod_fault b at (sot_in b at) (part_header comps b at).end)) sot
-      (cause_first e (header_fault (kind_of (sot_in b at)) comps b (after_sot b at)) (sod_fault b at (sot_in b at) (part_header comps b at).end) h))
+      cause_later e (start_fault comps b at) (option_or (sot_fault tiles b at (sot_in b at) out) (option_or (header_fault (kind_of packed (sot_in b at)) comps b (after_sot b at)) (sod_fault b at (sot_in b at) (part_header packed comps b at).end))) start
+      (cause_later e (sot_fault tiles b at (sot_in b at) out) (option_or (header_fault (kind_of packed (sot_in b at)) comps b (after_sot b at)) (sod_fault b at (sot_in b at) (part_header packed comps b at).end)) sot
+      (cause_first e (header_fault (kind_of packed (sot_in b at)) comps b (after_sot b at)) (sod_fault b at (sot_in b at) (part_header packed comps b at).end) h))
 
   pub part_sod : (e : StreamFault) → start_fault comps b at ≡ None → sot_fault tiles b at (sot_in b at) out ≡ None
-      → header_fault (kind_of (sot_in b at)) comps b (after_sot b at) ≡ None → IsCause e (sod_fault b at (sot_in b at) (part_header comps b at).end) → IsCause e (part_fault comps tiles b out at)
+      → header_fault (kind_of packed (sot_in b at)) comps b (after_sot b at) ≡ None → IsCause e (sod_fault b at (sot_in b at) (part_header packed comps b at).end) → IsCause e (part_fault packed comps tiles b out at)
   unfolding part_fault
   part_sod e start sot head h =
-      cause_later e (start_fault comps b at) (option_or (sot_fault tiles b at (sot_in b at) out) (option_or (header_fault (kind_of (sot_in b at)) comps b (after_sot b at)) (sod_fault b at (sot_in b at) (part_header comps b at).end))) start
-      (cause_later e (sot_fault tiles b at (sot_in b at) out) (option_or (header_fault (kind_of (sot_in b at)) comps b (after_sot b at)) (sod_fault b at (sot_in b at) (part_header comps b at).end)) sot
-      (cause_later e (header_fault (kind_of (sot_in b at)) comps b (after_sot b at)) (sod_fault b at (sot_in b at) (part_header comps b at).end) head h))
+      cause_later e (start_fault comps b at) (option_or (sot_fault tiles b at (sot_in b at) out) (option_or (header_fault (kind_of packed (sot_in b at)) comps b (after_sot b at)) (sod_fault b at (sot_in b at) (part_header packed comps b at).end))) start
+      (cause_later e (sot_fault tiles b at (sot_in b at) out) (option_or (header_fault (kind_of packed (sot_in b at)) comps b (after_sot b at)) (sod_fault b at (sot_in b at) (part_header packed comps b at).end)) sot
+      (cause_later e (header_fault (kind_of packed (sot_in b at)) comps b (after_sot b at)) (sod_fault b at (sot_in b at) (part_header packed comps b at).end) head h))
 
   pub part_none : start_fault comps b at ≡ None → sot_fault tiles b at (sot_in b at) out ≡ None
-      → header_fault (kind_of (sot_in b at)) comps b (after_sot b at) ≡ None → sod_fault b at (sot_in b at) (part_header comps b at).end ≡ None → part_fault comps tiles b out at ≡ None
+      → header_fault (kind_of packed (sot_in b at)) comps b (after_sot b at) ≡ None → sod_fault b at (sot_in b at) (part_header packed comps b at).end ≡ None → part_fault packed comps tiles b out at ≡ None
   unfolding part_fault
   part_none start sot head sod = rw (start, sot, head, sod) refl
 
 -- the tile-part that was read
-pub part_is : (comps : ℕ) (b : List ℕ) (at : ℕ) (sot : Sot) (header : Header) (end : ℕ) → sot ≡ sot_in b at → header ≡ part_header comps b at → end ≡ end_of b at sot
-    → ◌≡◌ {A = PlacedPart} (record { place = at; sot = sot; header = header.segments; body = record { at = header.end + 2; length = end - (header.end + 2) } }) (part_at comps b at)
+pub part_is : (packed : Bool) (comps : ℕ) (b : List ℕ) (at : ℕ) (sot : Sot) (header : Header) (end : ℕ) (heads : Option (List Body)) → sot ≡ sot_in b at → header ≡ part_header packed comps b at → end ≡ end_of b at sot
+    → heads ≡ heads_in comps (after_sot b at) header.segments
+    → ◌≡◌ {A = PlacedPart} (record { place = at; sot = sot; header = header.segments; heads = heads; body = record { at = header.end + 2; length = end - (header.end + 2) } }) (part_at packed comps b at)
 unfolding part_at
-part_is comps b at sot header end is head stop = rw (stop, head, is) refl
+part_is packed comps b at sot header end heads is head stop apart = rw (apart, stop, head, is) refl
 
 -- the header is read from where the SOT ends, for the kind that the SOT says
-pub header_same : (comps : ℕ) (b : List ℕ) (at : ℕ) (sot : Sot) (next : ℕ) (kind : HeaderKind) (header : Header) → sot ≡ sot_in b at → next ≡ after_sot b at → kind ≡ kind_of sot
-    → header ≡ header_at kind comps b next → header ≡ part_header comps b at
-header_same comps b at sot next kind header is after of h =
-    h ∙ ap (λ (k : HeaderKind). header_at k comps b next) (of ∙ ap kind_of is) ∙ ap (λ (n : ℕ). header_at (kind_of (sot_in b at)) comps b n) after
+pub header_same : (packed : Bool) (comps : ℕ) (b : List ℕ) (at : ℕ) (sot : Sot) (next : ℕ) (kind : HeaderKind) (header : Header) → sot ≡ sot_in b at → next ≡ after_sot b at → kind ≡ kind_of packed sot
+    → header ≡ header_at kind comps b next → header ≡ part_header packed comps b at
+header_same packed comps b at sot next kind header is after of h =
+    h ∙ ap (λ (k : HeaderKind). header_at k comps b next) (of ∙ ap (kind_of packed) is) ∙ ap (λ (n : ℕ). header_at (kind_of packed (sot_in b at)) comps b n) after
 
-pub header_fault_same : (comps : ℕ) (b : List ℕ) (at : ℕ) (sot : Sot) (next : ℕ) (kind : HeaderKind) → sot ≡ sot_in b at → next ≡ after_sot b at → kind ≡ kind_of sot
-    → header_fault kind comps b next ≡ header_fault (kind_of (sot_in b at)) comps b (after_sot b at)
-header_fault_same comps b at sot next kind is after of =
-    ap (λ (k : HeaderKind). header_fault k comps b next) (of ∙ ap kind_of is) ∙ ap (λ (n : ℕ). header_fault (kind_of (sot_in b at)) comps b n) after
+pub header_fault_same : (packed : Bool) (comps : ℕ) (b : List ℕ) (at : ℕ) (sot : Sot) (next : ℕ) (kind : HeaderKind) → sot ≡ sot_in b at → next ≡ after_sot b at → kind ≡ kind_of packed sot
+    → header_fault kind comps b next ≡ header_fault (kind_of packed (sot_in b at)) comps b (after_sot b at)
+header_fault_same packed comps b at sot next kind is after of =
+    ap (λ (k : HeaderKind). header_fault k comps b next) (of ∙ ap (kind_of packed) is) ∙ ap (λ (n : ℕ). header_fault (kind_of packed (sot_in b at)) comps b n) after
 
 -- a tile-part in which nothing is violated ends behind its first byte
 
@@ -118,136 +121,136 @@ sod_within b at sot sod h =
       | inr f ↦ rw f (ltb-false (at + sot.psot) (sod + 2) (broken_none PART_LENGTH at _ (rw f at h)))
     ]
 
-pub part_rises : (comps tiles : ℕ) (b : List ℕ) (out : Bool) (at : ℕ) → part_fault comps tiles b out at ≡ None → at < end_of_part (part_at comps b at)
+pub part_rises : (packed : Bool) (comps tiles : ℕ) (b : List ℕ) (out : Bool) (at : ℕ) → part_fault packed comps tiles b out at ≡ None → at < end_of_part (part_at packed comps b at)
 unfolding part_fault part_at
-part_rises comps tiles b out at h =
-    let one = none_later (start_fault comps b at) (option_or (sot_fault tiles b at (sot_in b at) out) (option_or (header_fault (kind_of (sot_in b at)) comps b (after_sot b at)) (sod_fault b at (sot_in b at) (part_header comps b at).end))) h in
-    let two = none_later (sot_fault tiles b at (sot_in b at) out) (option_or (header_fault (kind_of (sot_in b at)) comps b (after_sot b at)) (sod_fault b at (sot_in b at) (part_header comps b at).end)) one in
-    let three = none_later (header_fault (kind_of (sot_in b at)) comps b (after_sot b at)) (sod_fault b at (sot_in b at) (part_header comps b at).end) two in
-    let within : (part_header comps b at).end + 2 ≤ end_of b at (sot_in b at) = sod_within b at (sot_in b at) (part_header comps b at).end three in
+part_rises packed comps tiles b out at h =
+    let one = none_later (start_fault comps b at) (option_or (sot_fault tiles b at (sot_in b at) out) (option_or (header_fault (kind_of packed (sot_in b at)) comps b (after_sot b at)) (sod_fault b at (sot_in b at) (part_header packed comps b at).end))) h in
+    let two = none_later (sot_fault tiles b at (sot_in b at) out) (option_or (header_fault (kind_of packed (sot_in b at)) comps b (after_sot b at)) (sod_fault b at (sot_in b at) (part_header packed comps b at).end)) one in
+    let three = none_later (header_fault (kind_of packed (sot_in b at)) comps b (after_sot b at)) (sod_fault b at (sot_in b at) (part_header packed comps b at).end) two in
+    let within : (part_header packed comps b at).end + 2 ≤ end_of b at (sot_in b at) = sod_within b at (sot_in b at) (part_header packed comps b at).end three in
     let size : 2 ≤ size_at (drop at b) = size_is_two (drop at b) in
-    let rises : after_sot b at ≤ (part_header comps b at).end = longest_rises (kind_of (sot_in b at)) comps b (length b) [] (after_sot b at) in
+    let rises : after_sot b at ≤ (part_header packed comps b at).end = longest_rises (kind_of packed (sot_in b at)) comps b (length b) [] (after_sot b at) in
     omega arith
 
 -- the tables say what the tile-parts do
 
-module _ (comps : ℕ) (b : List ℕ) (parts : List PlacedPart) (counts told : List ℕ) (at : ℕ) (size : length told ≡ length counts) (tracks : Tracks parts counts told) where
+module _ (packed : Bool) (comps : ℕ) (b : List ℕ) (parts : List PlacedPart) (counts told : List ℕ) (at : ℕ) (size : length told ≡ length counts) (tracks : Tracks parts counts told) where
   tables_are_right : (sot : Sot) → sot.tile < length counts → tables_say counts told sot ≡ comes_out_of_turn parts sot
   tables_are_right sot inside =
       let inside_told : sot.tile < length told = omega arith in
       ap (λ (n : ℕ). is_out_of_turn sot n (nat_lt 0 (get_or told sot.tile 0) && not (get_or told sot.tile 0 == sot.parts))) (tracks.count sot.tile inside)
       ∙ ap (λ (x : Bool). is_out_of_turn sot (length (parts_of sot.tile parts)) x) (sym (tracks.others sot.tile sot.parts inside_told))
 
-  pub turn_same : part_fault comps (length counts) b (tables_say counts told (sot_in b at)) at ≡ fault_after comps (length counts) b parts at
+  pub turn_same : part_fault packed comps (length counts) b (tables_say counts told (sot_in b at)) at ≡ fault_after packed comps (length counts) b parts at
   unfolding part_fault sot_fault
   turn_same =
       elim (cases_Bool (nat_le (length counts) (sot_in b at).tile)) [
         | inl t ↦ rw t refl
         | inr f ↦
             let inside : (sot_in b at).tile < length counts = leb-false (length counts) (sot_in b at).tile f in
-            ap (λ (out : Bool). part_fault comps (length counts) b out at) (tables_are_right (sot_in b at) inside)
+            ap (λ (out : Bool). part_fault packed comps (length counts) b out at) (tables_are_right (sot_in b at) inside)
       ]
 
 -- where tile-parts stop and where they go on
 
-pub stop_at_eoc : (comps tiles : ℕ) (b : List ℕ) (parts : List PlacedPart) (at : ℕ) → marker_at b at EOC ≡ true → parts_stop comps tiles b parts at ≡ true
+pub stop_at_eoc : (packed : Bool) (comps tiles : ℕ) (b : List ℕ) (parts : List PlacedPart) (at : ℕ) → marker_at b at EOC ≡ true → parts_stop packed comps tiles b parts at ≡ true
 unfolding parts_stop
-stop_at_eoc comps tiles b parts at h = rw h refl
+stop_at_eoc packed comps tiles b parts at h = rw h refl
 
-pub stop_at_fault : (comps tiles : ℕ) (b : List ℕ) (parts : List PlacedPart) (at : ℕ) (e : StreamFault) → fault_after comps tiles b parts at ≡ Some e → parts_stop comps tiles b parts at ≡ true
+pub stop_at_fault : (packed : Bool) (comps tiles : ℕ) (b : List ℕ) (parts : List PlacedPart) (at : ℕ) (e : StreamFault) → fault_after packed comps tiles b parts at ≡ Some e → parts_stop packed comps tiles b parts at ≡ true
 unfolding parts_stop
-stop_at_fault comps tiles b parts at e h = rw h (or_right (marker_at b at EOC) true refl)
+stop_at_fault packed comps tiles b parts at e h = rw h (or_right (marker_at b at EOC) true refl)
 
-pub go_on : (comps tiles : ℕ) (b : List ℕ) (parts : List PlacedPart) (at : ℕ) → marker_at b at EOC ≡ false → fault_after comps tiles b parts at ≡ None → parts_stop comps tiles b parts at ≡ false
+pub go_on : (packed : Bool) (comps tiles : ℕ) (b : List ℕ) (parts : List PlacedPart) (at : ℕ) → marker_at b at EOC ≡ false → fault_after packed comps tiles b parts at ≡ None → parts_stop packed comps tiles b parts at ≡ false
 unfolding parts_stop
-go_on comps tiles b parts at goes clear = rw (goes, clear) refl
+go_on packed comps tiles b parts at goes clear = rw (goes, clear) refl
 
-pub goes_clear : (comps tiles : ℕ) (b : List ℕ) (parts : List PlacedPart) (at : ℕ) → parts_stop comps tiles b parts at ≡ false → fault_after comps tiles b parts at ≡ None
+pub goes_clear : (packed : Bool) (comps tiles : ℕ) (b : List ℕ) (parts : List PlacedPart) (at : ℕ) → parts_stop packed comps tiles b parts at ≡ false → fault_after packed comps tiles b parts at ≡ None
 unfolding parts_stop
-goes_clear comps tiles b parts at h = none_is (fault_after comps tiles b parts at) ((or_parts (marker_at b at EOC) (is_some (fault_after comps tiles b parts at)) h).1)
+goes_clear packed comps tiles b parts at h = none_is (fault_after packed comps tiles b parts at) ((or_parts (marker_at b at EOC) (is_some (fault_after packed comps tiles b parts at)) h).1)
 
 marker_past : (b : List ℕ) (at code : ℕ) → length b ≤ at → marker_at b at code ≡ false
 marker_past b at code h = rw (get_or_past b at 0 h) refl
 
-pub stop_past : (comps tiles : ℕ) (b : List ℕ) (parts : List PlacedPart) (at : ℕ) → length b ≤ at → parts_stop comps tiles b parts at ≡ true
-stop_past comps tiles b parts at h =
-    stop_at_fault comps tiles b parts at (fault.Rule PART_END at)
-    (part_start comps tiles b (comes_out_of_turn parts (sot_in b at)) at (fault.Rule PART_END at) (start_missing comps b at (marker_past b at SOT h) (marker_past b at EOC h)))
+pub stop_past : (packed : Bool) (comps tiles : ℕ) (b : List ℕ) (parts : List PlacedPart) (at : ℕ) → length b ≤ at → parts_stop packed comps tiles b parts at ≡ true
+stop_past packed comps tiles b parts at h =
+    stop_at_fault packed comps tiles b parts at (fault.Rule PART_END at)
+    (part_start packed comps tiles b (comes_out_of_turn parts (sot_in b at)) at (fault.Rule PART_END at) (start_missing comps b at (marker_past b at SOT h) (marker_past b at EOC h)))
 
-pub parts_stopped : (comps tiles : ℕ) (b : List ℕ) (n : ℕ) (parts : List PlacedPart) (at : ℕ) → parts_stop comps tiles b parts at ≡ true
-    → longest_parts comps tiles b n parts at ≡ record { parts = parts; end = at }
+pub parts_stopped : (packed : Bool) (comps tiles : ℕ) (b : List ℕ) (n : ℕ) (parts : List PlacedPart) (at : ℕ) → parts_stop packed comps tiles b parts at ≡ true
+    → longest_parts packed comps tiles b n parts at ≡ record { parts = parts; end = at }
 unfolding longest_parts
-parts_stopped comps tiles b zero parts at h = refl
-parts_stopped comps tiles b (suc n) parts at h = rw h refl
+parts_stopped packed comps tiles b zero parts at h = refl
+parts_stopped packed comps tiles b (suc n) parts at h = rw h refl
 
-pub parts_going : (comps tiles : ℕ) (b : List ℕ) (n : ℕ) (parts : List PlacedPart) (at : ℕ) → parts_stop comps tiles b parts at ≡ false
-    → longest_parts comps tiles b (suc n) parts at ≡ longest_parts comps tiles b n (parts ++ part_at comps b at ∷ []) (end_of_part (part_at comps b at))
+pub parts_going : (packed : Bool) (comps tiles : ℕ) (b : List ℕ) (n : ℕ) (parts : List PlacedPart) (at : ℕ) → parts_stop packed comps tiles b parts at ≡ false
+    → longest_parts packed comps tiles b (suc n) parts at ≡ longest_parts packed comps tiles b n (parts ++ part_at packed comps b at ∷ []) (end_of_part (part_at packed comps b at))
 unfolding longest_parts
-parts_going comps tiles b n parts at h = rw h refl
+parts_going packed comps tiles b n parts at h = rw h refl
 
-parts_same : (comps tiles : ℕ) (b : List ℕ) (n m : ℕ) (parts : List PlacedPart) (at : ℕ) → length b - at ≤ n → length b - at ≤ m
-    → longest_parts comps tiles b n parts at ≡ longest_parts comps tiles b m parts at
-parts_same comps tiles b zero m parts at leb-false other =
+parts_same : (packed : Bool) (comps tiles : ℕ) (b : List ℕ) (n m : ℕ) (parts : List PlacedPart) (at : ℕ) → length b - at ≤ n → length b - at ≤ m
+    → longest_parts packed comps tiles b n parts at ≡ longest_parts packed comps tiles b m parts at
+parts_same packed comps tiles b zero m parts at leb-false other =
     let past : length b ≤ at = omega arith in
-    parts_stopped comps tiles b zero parts at (stop_past comps tiles b parts at past) ∙ sym (parts_stopped comps tiles b m parts at (stop_past comps tiles b parts at past))
-parts_same comps tiles b (suc n) zero parts at leb-false other =
+    parts_stopped packed comps tiles b zero parts at (stop_past packed comps tiles b parts at past) ∙ sym (parts_stopped packed comps tiles b m parts at (stop_past packed comps tiles b parts at past))
+parts_same packed comps tiles b (suc n) zero parts at leb-false other =
     let past : length b ≤ at = omega arith in
-    parts_stopped comps tiles b (suc n) parts at (stop_past comps tiles b parts at past) ∙ sym (parts_stopped comps tiles b zero parts at (stop_past comps tiles b parts at past))
-parts_same comps tiles b (suc n) (suc m) parts at leb-false other =
-    elim (cases_Bool (parts_stop comps tiles b parts at)) [
-      | inl t ↦ parts_stopped comps tiles b (suc n) parts at t ∙ sym (parts_stopped comps tiles b (suc m) parts at t)
-      | inr f ↦ let rises : at < end_of_part (part_at comps b at) = part_rises comps tiles b (comes_out_of_turn parts (sot_in b at)) at (goes_clear comps tiles b parts at f) in
-          let fewer : length b - end_of_part (part_at comps b at) ≤ n = omega arith in
-          let less : length b - end_of_part (part_at comps b at) ≤ m = omega arith in
-          parts_going comps tiles b n parts at f
-          ∙ parts_same comps tiles b n m (parts ++ part_at comps b at ∷ []) (end_of_part (part_at comps b at)) fewer less
-          ∙ sym (parts_going comps tiles b m parts at f)
+    parts_stopped packed comps tiles b (suc n) parts at (stop_past packed comps tiles b parts at past) ∙ sym (parts_stopped packed comps tiles b zero parts at (stop_past packed comps tiles b parts at past))
+parts_same packed comps tiles b (suc n) (suc m) parts at leb-false other =
+    elim (cases_Bool (parts_stop packed comps tiles b parts at)) [
+      | inl t ↦ parts_stopped packed comps tiles b (suc n) parts at t ∙ sym (parts_stopped packed comps tiles b (suc m) parts at t)
+      | inr f ↦ let rises : at < end_of_part (part_at packed comps b at) = part_rises packed comps tiles b (comes_out_of_turn parts (sot_in b at)) at (goes_clear packed comps tiles b parts at f) in
+          let fewer : length b - end_of_part (part_at packed comps b at) ≤ n = omega arith in
+          let less : length b - end_of_part (part_at packed comps b at) ≤ m = omega arith in
+          parts_going packed comps tiles b n parts at f
+          ∙ parts_same packed comps tiles b n m (parts ++ part_at packed comps b at ∷ []) (end_of_part (part_at packed comps b at)) fewer less
+          ∙ sym (parts_going packed comps tiles b m parts at f)
     ]
 
-pub parts_on : (comps tiles : ℕ) (b : List ℕ) (parts : List PlacedPart) (at : ℕ) → at < length b → parts_stop comps tiles b parts at ≡ false
-    → longest_parts comps tiles b (length b) parts at ≡ longest_parts comps tiles b (length b) (parts ++ part_at comps b at ∷ []) (end_of_part (part_at comps b at))
-parts_on comps tiles b parts at inside goes =
-    let rises : at < end_of_part (part_at comps b at) = part_rises comps tiles b (comes_out_of_turn parts (sot_in b at)) at (goes_clear comps tiles b parts at goes) in
-    let fewer : length b - end_of_part (part_at comps b at) ≤ length b - 1 = omega arith in
-    let most : length b - end_of_part (part_at comps b at) ≤ length b = omega arith in
+pub parts_on : (packed : Bool) (comps tiles : ℕ) (b : List ℕ) (parts : List PlacedPart) (at : ℕ) → at < length b → parts_stop packed comps tiles b parts at ≡ false
+    → longest_parts packed comps tiles b (length b) parts at ≡ longest_parts packed comps tiles b (length b) (parts ++ part_at packed comps b at ∷ []) (end_of_part (part_at packed comps b at))
+parts_on packed comps tiles b parts at inside goes =
+    let rises : at < end_of_part (part_at packed comps b at) = part_rises packed comps tiles b (comes_out_of_turn parts (sot_in b at)) at (goes_clear packed comps tiles b parts at goes) in
+    let fewer : length b - end_of_part (part_at packed comps b at) ≤ length b - 1 = omega arith in
+    let most : length b - end_of_part (part_at packed comps b at) ≤ length b = omega arith in
     let one : length b - at ≤ suc (length b - 1) = omega arith in
     let all : length b - at ≤ length b = omega arith in
-    parts_same comps tiles b (length b) (suc (length b - 1)) parts at all one
-    ∙ parts_going comps tiles b (length b - 1) parts at goes
-    ∙ parts_same comps tiles b (length b - 1) (length b) (parts ++ part_at comps b at ∷ []) (end_of_part (part_at comps b at)) fewer most
+    parts_same packed comps tiles b (length b) (suc (length b - 1)) parts at all one
+    ∙ parts_going packed comps tiles b (length b - 1) parts at goes
+    ∙ parts_same packed comps tiles b (length b - 1) (length b) (parts ++ part_at packed comps b at ∷ []) (end_of_part (part_at packed comps b at)) fewer most
 
 -- how tile-parts are read, that were read up to a place
 
-module _ (comps tiles : ℕ) (b : List ℕ) (start : ℕ) (parts : List PlacedPart) (at : ℕ)
-    (same : longest_parts comps tiles b (length b) parts at ≡ parts_from comps tiles b start) where
-  ended : parts_stop comps tiles b parts at ≡ true → parts_from comps tiles b start ≡ record { parts = parts; end = at }
-  ended h = sym same ∙ parts_stopped comps tiles b (length b) parts at h
+module _ (packed : Bool) (comps tiles : ℕ) (b : List ℕ) (start : ℕ) (parts : List PlacedPart) (at : ℕ)
+    (same : longest_parts packed comps tiles b (length b) parts at ≡ parts_from packed comps tiles b start) where
+  ended : parts_stop packed comps tiles b parts at ≡ true → parts_from packed comps tiles b start ≡ record { parts = parts; end = at }
+  ended h = sym same ∙ parts_stopped packed comps tiles b (length b) parts at h
 
-  pub fault_at_end : parts_stop comps tiles b parts at ≡ true → parts_fault comps tiles b start ≡ cond (marker_at b at EOC) None (fault_after comps tiles b parts at)
-  fault_at_end h = ap (λ (x : Parts). cond (marker_at b x.end EOC) None (fault_after comps tiles b x.parts x.end)) (ended h)
+  pub fault_at_end : parts_stop packed comps tiles b parts at ≡ true → parts_fault packed comps tiles b start ≡ cond (marker_at b at EOC) None (fault_after packed comps tiles b parts at)
+  fault_at_end h = ap (λ (x : Parts). cond (marker_at b x.end EOC) None (fault_after packed comps tiles b x.parts x.end)) (ended h)
 
   pub parts_end : marker_at b at EOC ≡ true
-      → (parts_fault comps tiles b start ≡ None) × (parts ≡ (parts_from comps tiles b start).parts) × (at ≡ (parts_from comps tiles b start).end)
+      → (parts_fault packed comps tiles b start ≡ None) × (parts ≡ (parts_from packed comps tiles b start).parts) × (at ≡ (parts_from packed comps tiles b start).end)
   parts_end h =
-      let stop = stop_at_eoc comps tiles b parts at h in (
+      let stop = stop_at_eoc packed comps tiles b parts at h in (
         fault_at_end stop ∙ rw h refl,
         ap (λ (x : Parts). x.parts) (sym (ended stop)),
         ap (λ (x : Parts). x.end) (sym (ended stop)),
       )
 
-  pub parts_refused : (e : StreamFault) → marker_at b at EOC ≡ false → IsCause e (fault_after comps tiles b parts at) → IsCause e (parts_fault comps tiles b start)
+  pub parts_refused : (e : StreamFault) → marker_at b at EOC ≡ false → IsCause e (fault_after packed comps tiles b parts at) → IsCause e (parts_fault packed comps tiles b start)
   parts_refused (fault.Rule number place) goes h =
-      fault_at_end (stop_at_fault comps tiles b parts at (fault.Rule number place) h) ∙ rw goes h
+      fault_at_end (stop_at_fault packed comps tiles b parts at (fault.Rule number place) h) ∙ rw goes h
   parts_refused (fault.Limit number found) goes h =
-      fault_at_end (stop_at_fault comps tiles b parts at (fault.Limit number found) h) ∙ rw goes h
+      fault_at_end (stop_at_fault packed comps tiles b parts at (fault.Limit number found) h) ∙ rw goes h
   parts_refused fault.NoMemory goes h = tt
 
-  pub parts_more : (items : List PlacedPart) (p : PlacedPart) (next : ℕ) → at < length b → marker_at b at EOC ≡ false → fault_after comps tiles b parts at ≡ None → p ≡ part_at comps b at
-      → items ≡ parts ++ p ∷ [] → next ≡ end_of_part p → longest_parts comps tiles b (length b) items next ≡ parts_from comps tiles b start
+  pub parts_more : (items : List PlacedPart) (p : PlacedPart) (next : ℕ) → at < length b → marker_at b at EOC ≡ false → fault_after packed comps tiles b parts at ≡ None → p ≡ part_at packed comps b at
+      → items ≡ parts ++ p ∷ [] → next ≡ end_of_part p → longest_parts packed comps tiles b (length b) items next ≡ parts_from packed comps tiles b start
   parts_more items p next inside goes clear is all after =
-      ap (λ (n : ℕ). longest_parts comps tiles b (length b) items n) (after ∙ ap end_of_part is)
-      ∙ ap (λ (x : List PlacedPart). longest_parts comps tiles b (length b) x (end_of_part (part_at comps b at))) (all ∙ ap (λ (x : PlacedPart). parts ++ x ∷ []) is)
-      ∙ sym (parts_on comps tiles b parts at inside (go_on comps tiles b parts at goes clear)) ∙ same
+      ap (λ (n : ℕ). longest_parts packed comps tiles b (length b) items n) (after ∙ ap end_of_part is)
+      ∙ ap (λ (x : List PlacedPart). longest_parts packed comps tiles b (length b) x (end_of_part (part_at packed comps b at))) (all ∙ ap (λ (x : PlacedPart). parts ++ x ∷ []) is)
+      ∙ sym (parts_on packed comps tiles b parts at inside (go_on packed comps tiles b parts at goes clear)) ∙ same
 
 -- the tables after one tile-part more
 
@@ -333,28 +336,28 @@ module _ (parts : List PlacedPart) (p : PlacedPart) (counts told : List ℕ) (in
   tracks_counted = record { count = counted; others = told_after }
 
 -- where nothing is violated the SOT comes in turn
-turn_of : (comps tiles : ℕ) (b : List ℕ) (out : Bool) (at : ℕ) → part_fault comps tiles b out at ≡ None → out ≡ false
+turn_of : (packed : Bool) (comps tiles : ℕ) (b : List ℕ) (out : Bool) (at : ℕ) → part_fault packed comps tiles b out at ≡ None → out ≡ false
 unfolding part_fault sot_fault
-turn_of comps tiles b out at h =
-    let one = none_later (start_fault comps b at) (option_or (sot_fault tiles b at (sot_in b at) out) (option_or (header_fault (kind_of (sot_in b at)) comps b (after_sot b at)) (sod_fault b at (sot_in b at) (part_header comps b at).end))) h in
-    let two = none_first (sot_fault tiles b at (sot_in b at) out) (option_or (header_fault (kind_of (sot_in b at)) comps b (after_sot b at)) (sod_fault b at (sot_in b at) (part_header comps b at).end)) one in
+turn_of packed comps tiles b out at h =
+    let one = none_later (start_fault comps b at) (option_or (sot_fault tiles b at (sot_in b at) out) (option_or (header_fault (kind_of packed (sot_in b at)) comps b (after_sot b at)) (sod_fault b at (sot_in b at) (part_header packed comps b at).end))) h in
+    let two = none_first (sot_fault tiles b at (sot_in b at) out) (option_or (header_fault (kind_of packed (sot_in b at)) comps b (after_sot b at)) (sod_fault b at (sot_in b at) (part_header packed comps b at).end)) one in
     let three = none_first (option_or (broken NO_TILE at (nat_le tiles (sot_in b at).tile)) (broken PART_NUMBER at out)) (broken PART_LENGTH at (has_wrong_length b at (sot_in b at))) two in
     broken_none PART_NUMBER at out (none_later (broken NO_TILE at (nat_le tiles (sot_in b at).tile)) (broken PART_NUMBER at out) three)
 
-sot_of_part : (comps : ℕ) (b : List ℕ) (at : ℕ) (p : PlacedPart) → p ≡ part_at comps b at → p.sot ≡ sot_in b at
+sot_of_part : (packed : Bool) (comps : ℕ) (b : List ℕ) (at : ℕ) (p : PlacedPart) → p ≡ part_at packed comps b at → p.sot ≡ sot_in b at
 unfolding part_at
-sot_of_part comps b at p h = ap (λ (x : PlacedPart). x.sot) h
+sot_of_part packed comps b at p h = ap (λ (x : PlacedPart). x.sot) h
 
-pub tracks_more : (comps tiles : ℕ) (b : List ℕ) (parts items : List PlacedPart) (p : PlacedPart) (at : ℕ) (counts told after known : List ℕ) → fault_after comps tiles b parts at ≡ None
-    → p ≡ part_at comps b at → p.sot.tile < length counts → length told ≡ length counts → items ≡ parts ++ p ∷ []
+pub tracks_more : (packed : Bool) (comps tiles : ℕ) (b : List ℕ) (parts items : List PlacedPart) (p : PlacedPart) (at : ℕ) (counts told after known : List ℕ) → fault_after packed comps tiles b parts at ≡ None
+    → p ≡ part_at packed comps b at → p.sot.tile < length counts → length told ≡ length counts → items ≡ parts ++ p ∷ []
     → after ≡ set counts p.sot.tile (p.sot.part + 1) → known ≡ cond (nat_lt 0 p.sot.parts) (set told p.sot.tile p.sot.parts) told → Tracks parts counts told → Tracks items after known
-tracks_more comps tiles b parts items p at counts told after known clear is inside size all new new_known tracks =
-    let e : sot_in b at ≡ p.sot = sym (sot_of_part comps b at p is) in
-    let out : comes_out_of_turn parts p.sot ≡ false = sym (ap (comes_out_of_turn parts) e) ∙ turn_of comps tiles b (comes_out_of_turn parts (sot_in b at)) at clear in
+tracks_more packed comps tiles b parts items p at counts told after known clear is inside size all new new_known tracks =
+    let e : sot_in b at ≡ p.sot = sym (sot_of_part packed comps b at p is) in
+    let out : comes_out_of_turn parts p.sot ≡ false = sym (ap (comes_out_of_turn parts) e) ∙ turn_of packed comps tiles b (comes_out_of_turn parts (sot_in b at)) at clear in
     let turn : InTurn p.sot (length (parts_of p.sot.tile parts)) (told_other p.sot.parts (parts_of p.sot.tile parts)) = in_turn p.sot (length (parts_of p.sot.tile parts)) (told_other p.sot.parts (parts_of p.sot.tile parts)) out in
     rw (all, new, new_known) (tracks_counted parts p counts told inside size tracks turn)
 
-pub turn_at : (comps tiles : ℕ) (b : List ℕ) (parts : List PlacedPart) (counts told : List ℕ) (at : ℕ) → length counts ≡ tiles → length told ≡ length counts → Tracks parts counts told
-    → part_fault comps (length counts) b (tables_say counts told (sot_in b at)) at ≡ fault_after comps tiles b parts at
-turn_at comps tiles b parts counts told at count size tracks =
-    turn_same comps b parts counts told at size tracks ∙ ap (λ (n : ℕ). fault_after comps n b parts at) count
+pub turn_at : (packed : Bool) (comps tiles : ℕ) (b : List ℕ) (parts : List PlacedPart) (counts told : List ℕ) (at : ℕ) → length counts ≡ tiles → length told ≡ length counts → Tracks parts counts told
+    → part_fault packed comps (length counts) b (tables_say counts told (sot_in b at)) at ≡ fault_after packed comps tiles b parts at
+turn_at packed comps tiles b parts counts told at count size tracks =
+    turn_same packed comps b parts counts told at size tracks ∙ ap (λ (n : ℕ). fault_after packed comps n b parts at) count

@@ -10,6 +10,7 @@ use Rattle.jx_marker.specs.Ranges.{SotInRange}
 use Rattle.jx_codestream.specs.declared.headers.Header.{Header}
 use Rattle.jx_codestream.specs.declared.parts.PlacedPart.{PlacedPart}
 use Rattle.jx_codestream.specs.Headers.{stands_in, header_at, header_fault}
+use Rattle.jx_codestream.specs.PackedHeaders.{heads_in}
 use Rattle.jx_codestream.specs.Parts.{marker_at, sot_in, after_sot, kind_of, comes_out_of_turn, start_fault, sot_fault, sod_fault, end_of, part_header, part_at, fault_after, end_of_part, Parts, longest_parts}
 use Rattle.jx_codestream.specs.Spells.{TilePart, all_bytes, head_bytes, part_bytes, part_of, placed, HasLength, IsTilePart, AreTileParts}
 use Rattle.jx_codestream.proofs.PartLemmas.{sot_stands, start_clear, part_none, part_is, parts_stopped, parts_on, stop_at_eoc, go_on}
@@ -31,8 +32,13 @@ marker_is_not b at code other rest h differs =
     let no_such : (get_or b (at + 1) 0 == other) ≡ false = ne_eqb (get_or b (at + 1) 0) other (λ e. differs (sym second ∙ e)) in
     ap (λ (x : Bool). (get_or b at 0 == 255) && x) no_such ∙ and_right (get_or b at 0 == 255) false refl
 
-pub sod_stands : (sot : Sot) → stands_in (kind_of sot) segment.Sod ≡ true
-sod_stands sot =
+pub sod_stands : (packed : Bool) (sot : Sot) → stands_in (kind_of packed sot) segment.Sod ≡ true
+sod_stands false sot =
+    elim (cases_Bool (sot.part == 0)) [
+      | inl t ↦ rw t refl
+      | inr f ↦ rw f refl
+    ]
+sod_stands true sot =
     elim (cases_Bool (sot.part == 0)) [
       | inl t ↦ rw t refl
       | inr f ↦ rw f refl
@@ -70,13 +76,13 @@ pub ends_named : (comps : ℕ) (p : TilePart) (tail : List ℕ) → p.sot.psot �
 unfolding Ends
 ends_named comps p tail named = inl named
 
-pub record PartRead (comps tiles : ℕ) (b : List ℕ) (before : List PlacedPart) (at : ℕ) (p : TilePart) : Type 0 where
+pub record PartRead (packed : Bool) (comps tiles : ℕ) (b : List ℕ) (before : List PlacedPart) (at : ℕ) (p : TilePart) : Type 0 where
   pub goes : marker_at b at EOC ≡ false
-  pub clear : fault_after comps tiles b before at ≡ None
-  pub value : part_at comps b at ≡ part_of comps at p
+  pub clear : fault_after packed comps tiles b before at ≡ None
+  pub value : part_at packed comps b at ≡ part_of comps at p
   pub inside : at < length b
 
-module _ (comps tiles : ℕ) (b : List ℕ) (before : List PlacedPart) (at : ℕ) (p : TilePart) (tail : List ℕ) (is : IsTilePart comps tiles before p) (ends : Ends comps p tail)
+module _ (packed : Bool) (comps tiles : ℕ) (b : List ℕ) (before : List PlacedPart) (at : ℕ) (p : TilePart) (tail : List ℕ) (is : IsTilePart packed comps tiles before p) (ends : Ends comps p tail)
     (h : drop at b ≡ part_bytes comps p ++ tail) where
   front : drop at b ≡ spelling comps (segment.Sot p.sot) ++ (all_bytes comps p.header ++ (spelling comps segment.Sod ++ (p.body ++ tail)))
   front = h ∙ sym (regroup (spelling comps (segment.Sot p.sot)) (all_bytes comps p.header) (spelling comps segment.Sod) p.body tail)
@@ -103,16 +109,16 @@ module _ (comps tiles : ℕ) (b : List ℕ) (before : List PlacedPart) (at : ℕ
   sot_there : SotRead comps b at p.sot (all_bytes comps p.header ++ (spelling comps segment.Sod ++ (p.body ++ tail)))
   sot_there = sot_read comps b at p.sot (all_bytes comps p.header ++ (spelling comps segment.Sod ++ (p.body ++ tail))) is.range front
 
-  header_is : part_header comps b at ≡ record { segments = p.header; end = sod }
+  header_is : part_header packed comps b at ≡ record { segments = p.header; end = sod }
   unfolding sod
   header_is =
-      ap (λ (s : Sot). header_at (kind_of s) comps b (after_sot b at)) sot_there.value ∙ ap (λ (n : ℕ). header_at (kind_of p.sot) comps b n) sot_there.after
-      ∙ header_read (kind_of p.sot) comps b p.header [] (at + 12) segment.Sod (p.body ++ tail) is.header tt refl (sod_stands p.sot) sot_there.there
+      ap (λ (s : Sot). header_at (kind_of packed s) comps b (after_sot b at)) sot_there.value ∙ ap (λ (n : ℕ). header_at (kind_of packed p.sot) comps b n) sot_there.after
+      ∙ header_read (kind_of packed p.sot) comps b p.header [] (at + 12) segment.Sod (p.body ++ tail) is.header tt refl (sod_stands packed p.sot) sot_there.there
 
-  header_none : header_fault (kind_of (sot_in b at)) comps b (after_sot b at) ≡ None
+  header_none : header_fault (kind_of packed (sot_in b at)) comps b (after_sot b at) ≡ None
   header_none =
-      ap (λ (s : Sot). header_fault (kind_of s) comps b (after_sot b at)) sot_there.value ∙ ap (λ (n : ℕ). header_fault (kind_of p.sot) comps b n) sot_there.after
-      ∙ header_clear (kind_of p.sot) comps b p.header (at + 12) segment.Sod (p.body ++ tail) is.header tt refl (sod_stands p.sot) sot_there.there
+      ap (λ (s : Sot). header_fault (kind_of packed s) comps b (after_sot b at)) sot_there.value ∙ ap (λ (n : ℕ). header_fault (kind_of packed p.sot) comps b n) sot_there.after
+      ∙ header_clear (kind_of packed p.sot) comps b p.header (at + 12) segment.Sod (p.body ++ tail) is.header tt refl (sod_stands packed p.sot) sot_there.there
 
   fits : at + p.sot.psot ≤ length b
   unfolding Ends
@@ -157,16 +163,16 @@ module _ (comps tiles : ℕ) (b : List ℕ) (before : List PlacedPart) (at : ℕ
         rw (eq-eqb p.sot.psot 0 last.0, marker_is b (length b - 2) EOC [] there, le-ltb (length b - 2) (sod + 2) long) refl
   ]
 
-  pub part_read : PartRead comps tiles b before at p
+  pub part_read : PartRead packed comps tiles b before at p
   part_read =
       let P : Sot → Type 0 = λ s. sot_fault tiles b at s (comes_out_of_turn before s) ≡ None in
-      let Q : Sot → Type 0 = λ s. sod_fault b at s (part_header comps b at).end ≡ None in
-      let last : sod_fault b at p.sot (part_header comps b at).end ≡ None = ap (λ (x : Header). sod_fault b at p.sot x.end) header_is ∙ sod_none in
+      let Q : Sot → Type 0 = λ s. sod_fault b at s (part_header packed comps b at).end ≡ None in
+      let last : sod_fault b at p.sot (part_header packed comps b at).end ≡ None = ap (λ (x : Header). sod_fault b at p.sot x.end) header_is ∙ sod_none in
       record {
         goes = sot_there.goes;
-        clear = part_none comps tiles b (comes_out_of_turn before (sot_in b at)) at sot_there.clear (subst P (sym sot_there.value) sot_none) header_none (subst Q (sym sot_there.value) last);
-        value = sym (part_is comps b at p.sot (record { segments = p.header; end = sod }) (at + length (part_bytes comps p)) (sym sot_there.value) (sym header_is) (sym end_is))
-            ∙ same_part at p.sot p.header p.header (sod + 2) (at + length (head_bytes comps p)) (at + length (part_bytes comps p) - (sod + 2)) (length p.body) refl (sym head) (omega (arith, whole));
+        clear = part_none packed comps tiles b (comes_out_of_turn before (sot_in b at)) at sot_there.clear (subst P (sym sot_there.value) sot_none) header_none (subst Q (sym sot_there.value) last);
+        value = sym (part_is packed comps b at p.sot (record { segments = p.header; end = sod }) (at + length (part_bytes comps p)) (heads_in comps (after_sot b at) p.header) (sym sot_there.value) (sym header_is) (sym end_is) refl)
+            ∙ same_part at p.sot p.header p.header (heads_in comps (after_sot b at) p.header) (heads_in comps (at + length (spelling comps (segment.Sot p.sot))) p.header) (sod + 2) (at + length (head_bytes comps p)) (at + length (part_bytes comps p) - (sod + 2)) (length p.body) refl (ap (λ (n : ℕ). heads_in comps n p.header) (sot_there.after ∙ ap (λ (n : ℕ). at + n) (sym (sot_size comps p.sot)))) (sym head) (omega (arith, whole));
         inside = omega (arith, total, whole, after);
       }
 
@@ -181,21 +187,21 @@ ends_of comps p ps rest has = elim has [
 ]
 
 -- tile-parts that are spelled, with EOC after them
-pub parts_read : (comps tiles : ℕ) (b : List ℕ) (ps : List TilePart) (before : List PlacedPart) (at : ℕ) (rest : List ℕ) → AreTileParts comps tiles rest before at ps
+pub parts_read : (packed : Bool) (comps tiles : ℕ) (b : List ℕ) (ps : List TilePart) (before : List PlacedPart) (at : ℕ) (rest : List ℕ) → AreTileParts packed comps tiles rest before at ps
     → drop at b ≡ flat_map (part_bytes comps) ps ++ (0xFF ∷ EOC ∷ rest)
-    → longest_parts comps tiles b (length b) before at ≡ record { parts = before ++ placed comps at ps; end = at + length (flat_map (part_bytes comps) ps) }
-parts_read comps tiles b [] before at rest are h =
-    parts_stopped comps tiles b (length b) before at (stop_at_eoc comps tiles b before at (marker_is b at EOC rest h)) ∙ parts_same before (before ++ []) at (at + 0) (sym (append-nil before)) (sym (add-zero at))
-parts_read comps tiles b (p ∷ ps) before at rest are h =
+    → longest_parts packed comps tiles b (length b) before at ≡ record { parts = before ++ placed comps at ps; end = at + length (flat_map (part_bytes comps) ps) }
+parts_read packed comps tiles b [] before at rest are h =
+    parts_stopped packed comps tiles b (length b) before at (stop_at_eoc packed comps tiles b before at (marker_is b at EOC rest h)) ∙ parts_same before (before ++ []) at (at + 0) (sym (append-nil before)) (sym (add-zero at))
+parts_read packed comps tiles b (p ∷ ps) before at rest are h =
     let tail = flat_map (part_bytes comps) ps ++ (0xFF ∷ EOC ∷ rest) in
     let front : drop at b ≡ part_bytes comps p ++ tail = h ∙ append_assoc (part_bytes comps p) (flat_map (part_bytes comps) ps) (0xFF ∷ EOC ∷ rest) in
-    let read = part_read comps tiles b before at p tail are.0 (ends_of comps p ps rest are.1) front in
+    let read = part_read packed comps tiles b before at p tail are.0 (ends_of comps p ps rest are.1) front in
     let later : drop (at + length (part_bytes comps p)) b ≡ tail = drop_on b at (length (part_bytes comps p)) (part_bytes comps p) tail front refl in
-    let end : end_of_part (part_at comps b at) ≡ at + length (part_bytes comps p) = ap end_of_part read.value ∙ omega (arith, length-append (head_bytes comps p) p.body) in
-    parts_on comps tiles b before at read.inside (go_on comps tiles b before at read.goes read.clear)
-    ∙ ap (λ (n : ℕ). longest_parts comps tiles b (length b) (before ++ part_at comps b at ∷ []) n) end
-    ∙ ap (λ (x : PlacedPart). longest_parts comps tiles b (length b) (before ++ x ∷ []) (at + length (part_bytes comps p))) read.value
-    ∙ parts_read comps tiles b ps (before ++ part_of comps at p ∷ []) (at + length (part_bytes comps p)) rest are.2 later
+    let end : end_of_part (part_at packed comps b at) ≡ at + length (part_bytes comps p) = ap end_of_part read.value ∙ omega (arith, length-append (head_bytes comps p) p.body) in
+    parts_on packed comps tiles b before at read.inside (go_on packed comps tiles b before at read.goes read.clear)
+    ∙ ap (λ (n : ℕ). longest_parts packed comps tiles b (length b) (before ++ part_at packed comps b at ∷ []) n) end
+    ∙ ap (λ (x : PlacedPart). longest_parts packed comps tiles b (length b) (before ++ x ∷ []) (at + length (part_bytes comps p))) read.value
+    ∙ parts_read packed comps tiles b ps (before ++ part_of comps at p ∷ []) (at + length (part_bytes comps p)) rest are.2 later
     ∙ parts_same ((before ++ part_of comps at p ∷ []) ++ placed comps (at + length (part_bytes comps p)) ps) (before ++ placed comps at (p ∷ ps))
     (at + length (part_bytes comps p) + length (flat_map (part_bytes comps) ps)) (at + length (flat_map (part_bytes comps) (p ∷ ps)))
     (append_assoc before (part_of comps at p ∷ []) (placed comps (at + length (part_bytes comps p)) ps))

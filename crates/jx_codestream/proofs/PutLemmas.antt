@@ -21,10 +21,10 @@ use Rattle.jx_codestream.proofs.ViewLemmas.{shapes_made}
 
 -- a component of which a tile's header says nothing by itself
 uncoded_by : (own main : List Segment) (comp : ℕ) → in_slot cod_slot own ≡ None → has_named comp own ≡ false → shape_of own main comp ≡ shape_of [] main comp
-uncoded_by own main comp none unnamed = rw (no_own comp 5 own (omega arith) (omega arith) unnamed, none) refl
+uncoded_by own main comp none unnamed = rw (no_own comp 261 own (omega arith) (omega arith) unnamed, none) refl
 
 coded_by : (own main : List Segment) (comp : ℕ) (s : Segment) → in_slot cod_slot own ≡ Some s → has_named comp own ≡ false → shape_of own main comp ≡ shape_in (Some s)
-coded_by own main comp s some unnamed = rw (no_own comp 5 own (omega arith) (omega arith) unnamed, some) refl
+coded_by own main comp s some unnamed = rw (no_own comp 261 own (omega arith) (omega arith) unnamed, some) refl
 
 -- a list by components, where it is right for those that the header doesn't name
 listed_by : (h : TileHeaders) (f : ℕ → CompShape) (list : List CompShape) → list ≡ map f (range_with_len 0 (length h.siz.comps))

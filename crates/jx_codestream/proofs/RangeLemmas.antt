@@ -20,15 +20,17 @@ use Rattle.jx_codestream.specs.declared.headers.HeaderKind.TheVariants.{Main}
 use Rattle.jx_codestream.specs.declared.parts.PlacedPart.{PlacedPart}
 use Rattle.jx_codestream.specs.declared.Tile.{Tile}
 use Rattle.jx_codestream.specs.declared.Stream.{Stream}
-use Rattle.jx_codestream.specs.Headers.{has_slot}
+use Rattle.jx_codestream.specs.Headers.{has_packed, has_slot}
 use Rattle.jx_codestream.specs.Parts.{parts_of}
 use Rattle.jx_codestream.specs.Tiles.{in_slot, tile_from, tile_of}
 use Rattle.jx_codestream.specs.First.{tile_number, tiles_fault}
 use Rattle.jx_codestream.specs.Params.{chosen, shape_of, quant_of, shift_of, cod_of, shape_or, quant_or, cod_or, header_in, header_of, headers_at, shape_at, quant_at, shift_at, params_of, planes_of, planes_at, precincts_of, number_of, band_count, band_planes, tile_planes}
-use Rattle.jx_codestream.specs.Spells.{placed, first_sot}
+use Rattle.jx_codestream.specs.Spells.{placed, first_sot, main_packed}
 use Rattle.jx_codestream.specs.Read.{IsRead}
 use Rattle.jx_codestream.specs.Shapes.{shapes_of, shapes_in, shape_in, geometry, size_of, no_size, tile_at, no_tile, layers_of}
 use Rattle.jx_codestream.specs.InRange.{StreamInRange, HeadersInRange}
+use Rattle.jx_codestream.specs.PackedHeaders.{with_shares}
+use Rattle.jx_codestream.proofs.SharesLemmas.{shares_keep}
 use Rattle.jx_codestream.proofs.SegmentLemmas.{HasFitting, segments_fit, parts_fit, first_fits, defaults_there, slot_chosen, or_chosen, slot_there, or_there, chosen_fits, chosen_there, IsShaped, shape_there, IsQuantized, quant_there, IsCoded, cod_there}
 use Rattle.jx_codestream.proofs.PlaneLemmas.{all_planes, tile_fits, band_fits, number_inside}
 use Rattle.jx_codestream.proofs.ShapeLemmas.{SizFits, siz_is, shape_fits}
@@ -62,7 +64,7 @@ planes_fit (Some x) (Some y) shift number quant shape q e inside h = band_fits x
 
 module _ (b : List ℕ) (s : Stream) (read : IsRead b s) where
   abbrev parts : List PlacedPart
-  parts = placed (length s.siz.comps) (first_sot s.siz s.main) read.spelled.parts
+  parts = with_shares b (main_packed s.siz s.main) (placed (length s.siz.comps) (first_sot s.siz s.main) read.spelled.parts)
 
   sized : SizFits s.siz
   sized = siz_is s.siz read.spelled.siz.fits
@@ -76,7 +78,8 @@ module _ (b : List ℕ) (s : Stream) (read : IsRead b s) where
   own_fit : (t : ℕ) → All (HasFitting (length s.siz.comps)) (parts_of t parts)
   own_fit t =
       All-filter (λ (p : PlacedPart). p.sot.tile == t) (HasFitting (length s.siz.comps)) parts
-      (parts_fit (length s.siz.comps) (tile_number s.siz) read.spelled.rest [] (first_sot s.siz s.main) read.spelled.parts read.spelled.tile_parts)
+      (shares_keep (HasFitting (length s.siz.comps)) (λ p pieces h. h) b (main_packed s.siz s.main) (placed (length s.siz.comps) (first_sot s.siz s.main) read.spelled.parts)
+      (parts_fit (has_packed s.main) (length s.siz.comps) (tile_number s.siz) read.spelled.rest [] (first_sot s.siz s.main) read.spelled.parts read.spelled.tile_parts))
 
   count_is : length s.tiles ≡ tile_number s.siz
   count_is = ap length read.spelled.tiles ∙ length-map-range_with_len (tile_of s.main parts) 0 (tile_number s.siz)
@@ -96,15 +99,15 @@ module _ (b : List ℕ) (s : Stream) (read : IsRead b s) where
       let P : List Segment → Type 0 = λ x. All (InRange (length s.siz.comps)) x in
       subst P (sym (header_same t inside ∙ ap (λ (x : Tile). x.header) (tile_is t inside))) (first_fits (length s.siz.comps) (parts_of t parts) (own_fit t))
 
-  shaped_at : (t c : ℕ) → t < tile_number s.siz → IsShaped (chosen (5 + 3 * c) 1 (header_of s t) s.main)
+  shaped_at : (t c : ℕ) → t < tile_number s.siz → IsShaped (chosen (261 + 3 * c) 1 (header_of s t) s.main)
   shaped_at t c inside =
-      shape_there (length s.siz.comps) c _ (chosen_fits (length s.siz.comps) (5 + 3 * c) 1 (header_of s t) s.main (header_fits t inside) main_fit)
-      (chosen_there (5 + 3 * c) 1 (header_of s t) s.main both_there.0)
+      shape_there (length s.siz.comps) c _ (chosen_fits (length s.siz.comps) (261 + 3 * c) 1 (header_of s t) s.main (header_fits t inside) main_fit)
+      (chosen_there (261 + 3 * c) 1 (header_of s t) s.main both_there.0)
 
-  quantized_at : (t c : ℕ) → t < tile_number s.siz → IsQuantized (chosen (6 + 3 * c) 2 (header_of s t) s.main)
+  quantized_at : (t c : ℕ) → t < tile_number s.siz → IsQuantized (chosen (262 + 3 * c) 2 (header_of s t) s.main)
   quantized_at t c inside =
-      quant_there (length s.siz.comps) c _ (chosen_fits (length s.siz.comps) (6 + 3 * c) 2 (header_of s t) s.main (header_fits t inside) main_fit)
-      (chosen_there (6 + 3 * c) 2 (header_of s t) s.main both_there.1)
+      quant_there (length s.siz.comps) c _ (chosen_fits (length s.siz.comps) (262 + 3 * c) 2 (header_of s t) s.main (header_fits t inside) main_fit)
+      (chosen_there (262 + 3 * c) 2 (header_of s t) s.main both_there.1)
 
   coded_at : (t : ℕ) → t < tile_number s.siz → IsCoded (option_or (in_slot 1 (header_of s t)) (in_slot 1 s.main))
   coded_at t inside =

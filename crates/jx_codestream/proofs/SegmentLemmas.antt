@@ -1,5 +1,5 @@
 -- Segments of headers that were read: each is in range, and so is each that is chosen by precedence.
-use Rattle.std.proofs.Common.{◌≡◌, ◌+◌, ◌*◌, ◌==◌, ◌&&◌, ℕ, true, false, arith, List, [], ◌∷◌, ◌++◌, length, refl, Option, Some, None, ◌⊎◌, inl, inr}
+use Rattle.std.proofs.Common.{◌≡◌, ◌+◌, ◌*◌, ◌==◌, ◌&&◌, ℕ, Bool, true, false, arith, List, [], ◌∷◌, ◌++◌, length, refl, Option, Some, None, ◌⊎◌, inl, inr}
 use Rattle.std.specs.List.{All}
 use Rattle.std.specs.Option.{option_or, is_some}
 use Rattle.std.proofs.lemmas.List.Elements.{All-nil, All-cons, All-head, All-tail, All-append}
@@ -27,12 +27,12 @@ segments_fit kind comps before (s ∷ ss) h = All-cons (InRange comps) s ss h.0.
 abbrev pub HasFitting : ℕ → PlacedPart → Type 0
 HasFitting comps p = All (InRange comps) p.header
 
-pub parts_fit : (comps tiles : ℕ) (rest : List ℕ) (before : List PlacedPart) (at : ℕ) (parts : List TilePart) → AreTileParts comps tiles rest before at parts
+pub parts_fit : (packed : Bool) (comps tiles : ℕ) (rest : List ℕ) (before : List PlacedPart) (at : ℕ) (parts : List TilePart) → AreTileParts packed comps tiles rest before at parts
     → All (HasFitting comps) (placed comps at parts)
-parts_fit comps tiles rest before at [] h = All-nil (HasFitting comps)
-parts_fit comps tiles rest before at (p ∷ ps) h =
+parts_fit packed comps tiles rest before at [] h = All-nil (HasFitting comps)
+parts_fit packed comps tiles rest before at (p ∷ ps) h =
     All-cons (HasFitting comps) (part_of comps at p) (placed comps (at + length (part_bytes comps p)) ps) (segments_fit _ comps [] p.header h.0.header)
-    (parts_fit comps tiles rest (before ++ part_of comps at p ∷ []) (at + length (part_bytes comps p)) ps h.2)
+    (parts_fit packed comps tiles rest (before ++ part_of comps at p ∷ []) (at + length (part_bytes comps p)) ps h.2)
 
 pub first_fits : (comps : ℕ) (own : List PlacedPart) → All (HasFitting comps) own → All (InRange comps) (first_header own)
 first_fits comps [] h = All-nil (InRange comps)
@@ -96,14 +96,16 @@ pub record IsShaped (o : Option Segment) : Type 0 where
   pub is : shape_in o ≡ Some shape
   pub fits : ShapeInRange shape
 
-shaped : (comps comp : ℕ) (s : Segment) → InRange comps s → (slot_of s ≡ 5 + 3 * comp) ⊎ (slot_of s ≡ 1) → IsShaped (Some s)
+shaped : (comps comp : ℕ) (s : Segment) → InRange comps s → (slot_of s ≡ 261 + 3 * comp) ⊎ (slot_of s ≡ 1) → IsShaped (Some s)
 shaped comps comp (segment.Cod cod) r one = record { shape = cod.shape; is = refl; fits = r.shape }
 shaped comps comp (segment.Coc other shape) r one = record { shape = shape; is = refl; fits = r.fits }
 shaped comps comp (segment.Qcc other quant) r one = absurd (omega arith)
 shaped comps comp (segment.Rgn other shift) r one = absurd (omega arith)
+shaped comps comp (segment.Ppm index bytes) r one = absurd (omega (arith, r.index_fits))
+shaped comps comp (segment.Ppt index bytes) r one = absurd (omega (arith, r.index_fits))
 shaped comps comp _ r one = absurd (omega arith)
 
-pub shape_there : (comps comp : ℕ) (o : Option Segment) → IsChosen comps (5 + 3 * comp) 1 o → is_some o ≡ true → IsShaped o
+pub shape_there : (comps comp : ℕ) (o : Option Segment) → IsChosen comps (261 + 3 * comp) 1 o → is_some o ≡ true → IsShaped o
 shape_there comps comp None is there = absurd (cc)
 shape_there comps comp (Some s) is there = shaped comps comp s is.0 is.1
 
@@ -111,14 +113,14 @@ pub record IsQuantized (o : Option Segment) : Type 0 where
   pub quant : Quant
   pub is : quant_in o ≡ Some quant
 
-quantized : (comp : ℕ) (s : Segment) → (slot_of s ≡ 6 + 3 * comp) ⊎ (slot_of s ≡ 2) → IsQuantized (Some s)
+quantized : (comp : ℕ) (s : Segment) → (slot_of s ≡ 262 + 3 * comp) ⊎ (slot_of s ≡ 2) → IsQuantized (Some s)
 quantized comp (segment.Qcd quant) one = record { quant = quant; is = refl }
 quantized comp (segment.Qcc other quant) one = record { quant = quant; is = refl }
 quantized comp (segment.Coc other shape) one = absurd (omega arith)
 quantized comp (segment.Rgn other shift) one = absurd (omega arith)
 quantized comp _ one = absurd (omega arith)
 
-pub quant_there : (comps comp : ℕ) (o : Option Segment) → IsChosen comps (6 + 3 * comp) 2 o → is_some o ≡ true → IsQuantized o
+pub quant_there : (comps comp : ℕ) (o : Option Segment) → IsChosen comps (262 + 3 * comp) 2 o → is_some o ≡ true → IsQuantized o
 quant_there comps comp None is there = absurd (cc)
 quant_there comps comp (Some s) is there = quantized comp s is.1
 

@@ -15,14 +15,16 @@ use Rattle.jx_marker.specs.Ranges.{AreBytes, SotInRange}
 use Rattle.jx_marker.specs.Laws.{BeginsWith}
 use Rattle.jx_marker.proofs.SpelledLemmas.{segment_is_read}
 use Rattle.jx_marker.proofs.ReadLemmas.{segment_is_spelled}
-use Rattle.jx_marker.specs.RuleNumbers.{MISPLACED, NO_TILE, PART_END, PART_LENGTH, PART_NUMBER, TWICE}
+use Rattle.jx_marker.specs.RuleNumbers.{MISPLACED, NO_TILE, PACKED_HEADERS, PART_END, PART_LENGTH, PART_NUMBER, TWICE}
 use Rattle.jx_codestream.specs.declared.faults.StreamFault.{StreamFault}
 use Rattle.jx_codestream.specs.declared.headers.HeaderKind.{HeaderKind}
 use Rattle.jx_codestream.specs.declared.headers.HeaderKind.TheVariants.{First, Later}
 use Rattle.jx_codestream.specs.declared.headers.Header.{Header}
 use Rattle.jx_codestream.specs.declared.parts.PlacedPart.{PlacedPart}
+use Rattle.jx_codestream.specs.declared.Body.{Body}
 use Rattle.jx_codestream.specs.Faults.{broken, rule_at}
-use Rattle.jx_codestream.specs.Headers.{stands_in, ends_header, is_second, early_fault, segment_fault, stops, longest, header_at, header_fault}
+use Rattle.jx_codestream.specs.Headers.{stands_in, ends_header, is_second, is_packed_twice, early_fault, segment_fault, stops, longest, header_at, header_fault}
+use Rattle.jx_codestream.specs.PackedHeaders.{heads_in}
 use Rattle.jx_codestream.specs.Parts.{marker_at, sot_in, after_sot, kind_of, comes_out_of_turn, start_fault, sot_fault, sod_fault, has_wrong_length, end_of, part_header, body_of, part_at, part_fault, fault_after, end_of_part, parts_stop, Parts, longest_parts, parts_from, parts_fault}
 use Rattle.jx_codestream.specs.Spells.{TilePart, all_bytes, head_bytes, part_bytes, part_of, placed, AreSegments, IsTilePart, AreTileParts}
 use Rattle.jx_codestream.proofs.FaultLemmas.{none_first, none_later, broken_none, rule_none}
@@ -34,6 +36,7 @@ use Rattle.std.proofs.lemmas.Bool.{or_parts, not-false, leb-false, ltb-false, an
 
 pub record IsClear (kind : HeaderKind) (comps : ℕ) (b : List ℕ) (before : List Segment) (at : ℕ) : Type 0 where
   pub rules : first_broken comps (drop at b) ≡ None
+  pub alone : is_packed_twice kind (segment_at comps (drop at b)) ≡ false
   pub stands : stands_in kind (segment_at comps (drop at b)) ≡ true
   pub once : is_second before (segment_at comps (drop at b)) ≡ false
 
@@ -41,11 +44,16 @@ pub is_clear : (kind : HeaderKind) (comps : ℕ) (b : List ℕ) (before : List S
 unfolding segment_fault early_fault
 is_clear kind comps b before at h =
     let s = segment_at comps (drop at b) in
-    let early = none_first (option_or (rule_at at (first_broken comps (drop at b))) (broken MISPLACED at (not (stands_in kind s)))) (broken TWICE at (is_second before s)) h in
-    let second = none_later (option_or (rule_at at (first_broken comps (drop at b))) (broken MISPLACED at (not (stands_in kind s)))) (broken TWICE at (is_second before s)) h in
+    let rules = rule_at at (first_broken comps (drop at b)) in
+    let packed = broken PACKED_HEADERS at (is_packed_twice kind s) in
+    let misplaced = broken MISPLACED at (not (stands_in kind s)) in
+    let early = none_first (option_or rules (option_or packed misplaced)) (broken TWICE at (is_second before s)) h in
+    let second = none_later (option_or rules (option_or packed misplaced)) (broken TWICE at (is_second before s)) h in
+    let later = none_later rules (option_or packed misplaced) early in
     record {
-      rules = rule_none at (first_broken comps (drop at b)) (none_first (rule_at at (first_broken comps (drop at b))) (broken MISPLACED at (not (stands_in kind s))) early);
-      stands = not-false (stands_in kind s) (broken_none MISPLACED at (not (stands_in kind s)) (none_later (rule_at at (first_broken comps (drop at b))) (broken MISPLACED at (not (stands_in kind s))) early));
+      rules = rule_none at (first_broken comps (drop at b)) (none_first rules (option_or packed misplaced) early);
+      alone = broken_none PACKED_HEADERS at (is_packed_twice kind s) (none_first packed misplaced later);
+      stands = not-false (stands_in kind s) (broken_none MISPLACED at (not (stands_in kind s)) (none_later packed misplaced later));
       once = broken_none TWICE at (is_second before s) second;
     }
 
@@ -89,7 +97,7 @@ walked_more kind comps b before at header are goes later =
       all = later.all ∙ append_assoc before (s ∷ []) later.new;
       spelled = begins.spelled ∙ ap (λ (r : List ℕ). spelling comps s ++ r) (drop-drop (size_at (drop at b)) at b ∙ later.spelled)
           ∙ sym (append_assoc (spelling comps s) (all_bytes comps later.new) (drop header.end b));
-      are = (record { range = begins.range; stands = clear.stands; inside = here.1; once = clear.once }, later.are);
+      are = (record { range = begins.range; stands = clear.stands; once_packed = clear.alone; inside = here.1; once = clear.once }, later.are);
       size = later.size ∙ omega (arith, size, length-append (spelling comps s) (all_bytes comps later.new));
     }
 
@@ -160,8 +168,13 @@ sod_later (segment.Sot sot) ends stands = absurd (cc)
 sod_later segment.Sod ends stands = refl
 sod_later _ ends stands = absurd (cc)
 
-pub sod_ends : (sot : Sot) (s : Segment) → ends_header s ≡ true → stands_in (kind_of sot) s ≡ true → s ≡ segment.Sod
-sod_ends sot s ends =
+pub sod_ends : (packed : Bool) (sot : Sot) (s : Segment) → ends_header s ≡ true → stands_in (kind_of packed sot) s ≡ true → s ≡ segment.Sod
+sod_ends false sot s ends =
+    elim (cases_Bool (sot.part == 0)) [
+      | inl t ↦ rw t (sod_first s ends)
+      | inr f ↦ rw f (sod_later s ends)
+    ]
+sod_ends true sot s ends =
     elim (cases_Bool (sot.part == 0)) [
       | inl t ↦ rw t (sod_first s ends)
       | inr f ↦ rw f (sod_later s ends)
@@ -169,19 +182,19 @@ sod_ends sot s ends =
 
 -- the faults of a tile-part in which nothing is violated
 
-record PartClear (comps tiles : ℕ) (b : List ℕ) (out : Bool) (at : ℕ) : Type 0 where
+record PartClear (packed : Bool) (comps tiles : ℕ) (b : List ℕ) (out : Bool) (at : ℕ) : Type 0 where
   pub start : start_fault comps b at ≡ None
   pub sot : sot_fault tiles b at (sot_in b at) out ≡ None
-  pub header : header_fault (kind_of (sot_in b at)) comps b (after_sot b at) ≡ None
-  pub sod : sod_fault b at (sot_in b at) (part_header comps b at).end ≡ None
+  pub header : header_fault (kind_of packed (sot_in b at)) comps b (after_sot b at) ≡ None
+  pub sod : sod_fault b at (sot_in b at) (part_header packed comps b at).end ≡ None
 
-part_clear : (comps tiles : ℕ) (b : List ℕ) (out : Bool) (at : ℕ) → part_fault comps tiles b out at ≡ None → PartClear comps tiles b out at
+part_clear : (packed : Bool) (comps tiles : ℕ) (b : List ℕ) (out : Bool) (at : ℕ) → part_fault packed comps tiles b out at ≡ None → PartClear packed comps tiles b out at
 unfolding part_fault
-part_clear comps tiles b out at h =
+part_clear packed comps tiles b out at h =
     let start = start_fault comps b at in
     let sot = sot_fault tiles b at (sot_in b at) out in
-    let header = header_fault (kind_of (sot_in b at)) comps b (after_sot b at) in
-    let sod = sod_fault b at (sot_in b at) (part_header comps b at).end in
+    let header = header_fault (kind_of packed (sot_in b at)) comps b (after_sot b at) in
+    let sod = sod_fault b at (sot_in b at) (part_header packed comps b at).end in
     let one = none_later start (option_or sot (option_or header sod)) h in
     let two = none_later sot (option_or header sod) one in
     record {
@@ -237,12 +250,12 @@ sod_clear : (b : List ℕ) (at : ℕ) (sot : Sot) (sod : ℕ) → sod_fault b at
 sod_clear b at sot sod h = record { within = sod_within b at sot sod h; last = sod_last b at sot sod h }
 
 -- a tile-part that was walked over
-pub record PartWritten (comps tiles : ℕ) (b : List ℕ) (before : List PlacedPart) (at : ℕ) (part : PlacedPart) : Type 0 where
+pub record PartWritten (packed : Bool) (comps tiles : ℕ) (b : List ℕ) (before : List PlacedPart) (at : ℕ) (part : PlacedPart) : Type 0 where
   pub written : TilePart
   pub placed : part ≡ part_of comps at written
   pub spelled : drop at b ≡ part_bytes comps written ++ drop (end_of_part part) b
   pub end : end_of_part part ≡ at + length (part_bytes comps written)
-  pub is : IsTilePart comps tiles before written
+  pub is : IsTilePart packed comps tiles before written
   pub length : (written.sot.psot ≡ length (part_bytes comps written)) ⊎ ((written.sot.psot ≡ 0) × (end_of_part part ≡ length b - 2) × (marker_at b (length b - 2) EOC ≡ true))
 
 -- a header as it was walked over
@@ -270,16 +283,23 @@ end_within b at sot h =
       | inr f ↦ rw f h
     ]
 
-pub same_part : (place : ℕ) (sot : Sot) (one other : List Segment) (from start count size : ℕ) → one ≡ other → from ≡ start → count ≡ size
-    → ◌≡◌ {A = PlacedPart} (record { place = place; sot = sot; header = one; body = record { at = from; length = count } }) (record { place = place; sot = sot; header = other; body = record { at = start; length = size } })
-same_part place sot one other from start count size headers places sizes = rw (headers, places, sizes) refl
+pub same_part : (place : ℕ) (sot : Sot) (one other : List Segment) (heads apart : Option (List Body)) (from start count size : ℕ) → one ≡ other → heads ≡ apart → from ≡ start → count ≡ size
+    → ◌≡◌ {A = PlacedPart} (record { place = place; sot = sot; header = one; heads = heads; body = record { at = from; length = count } })
+    (record { place = place; sot = sot; header = other; heads = apart; body = record { at = start; length = size } })
+same_part place sot one other heads apart from start count size headers packed places sizes = rw (headers, packed, places, sizes) refl
 
 pub regroup : (a b c d e : List ℕ) → a ++ (b ++ (c ++ (d ++ e))) ≡ ((a ++ (b ++ c)) ++ d) ++ e
 regroup a b c d e = sym (simp append_assoc)
 
-part_shape : (comps : ℕ) (b : List ℕ) (at : ℕ) → part_at comps b at ≡ record { place = at; sot = sot_in b at; header = (part_header comps b at).segments; body = body_of b at (sot_in b at) (part_header comps b at).end }
+part_shape : (packed : Bool) (comps : ℕ) (b : List ℕ) (at : ℕ) → part_at packed comps b at ≡ record {
+  place = at;
+  sot = sot_in b at;
+  header = (part_header packed comps b at).segments;
+  heads = heads_in comps (after_sot b at) (part_header packed comps b at).segments;
+  body = body_of b at (sot_in b at) (part_header packed comps b at).end;
+}
 unfolding part_at
-part_shape comps b at = refl
+part_shape packed comps b at = refl
 
 zero_or_not : (n : ℕ) → (n ≡ 0) ⊎ ((n == 0) ≡ false)
 zero_or_not n = grind (arith, nat_tests)
@@ -315,10 +335,11 @@ module _ (comps : ℕ) (b : List ℕ) (at : ℕ) (sot : Sot) (header : Header) (
   part_size = omega (arith, head_size, data_size, length-append (head_bytes comps written_of) data_of, sizes.within)
 
   is_placed : (segments : List Segment) → segments ≡ new
-      → ◌≡◌ {A = PlacedPart} (record { place = at; sot = sot; header = segments; body = body_of b at sot header.end }) (part_of comps at written_of)
+      → ◌≡◌ {A = PlacedPart} (record { place = at; sot = sot; header = segments; heads = heads_in comps (at + size) segments; body = body_of b at sot header.end }) (part_of comps at written_of)
   unfolding written_of
   is_placed segments same =
-      same_part at sot segments new (header.end + 2) (at + length (head_bytes comps written_of)) (end_of b at sot - (header.end + 2)) (length data_of) same (sym head_size) (sym data_size)
+      same_part at sot segments new (heads_in comps (at + size) segments) (heads_in comps (at + length (spelling comps (segment.Sot sot))) new) (header.end + 2) (at + length (head_bytes comps written_of)) (end_of b at sot - (header.end + 2)) (length data_of) same
+      (ap (λ (n : ℕ). heads_in comps (at + n) segments) sizes.sot_size ∙ ap (heads_in comps (at + length (spelling comps (segment.Sot sot)))) same) (sym head_size) (sym data_size)
 
   is_written : drop at b ≡ spelling comps (segment.Sot sot) ++ drop (at + size) b → drop (at + size) b ≡ all_bytes comps new ++ drop header.end b
       → drop header.end b ≡ spelling comps segment.Sod ++ drop (header.end + 2) b → drop at b ≡ part_bytes comps written_of ++ drop (end_of b at sot) b
@@ -338,10 +359,10 @@ module _ (comps : ℕ) (b : List ℕ) (at : ℕ) (sot : Sot) (header : Header) (
   unfolding written_of
   written_header = refl
 
-  is_part : (tiles : ℕ) (before : List PlacedPart) → SotInRange sot → AreSegments (kind_of sot) comps [] new → sot.tile < tiles → comes_out_of_turn before sot ≡ false
-      → IsTilePart comps tiles before written_of
+  is_part : (packed : Bool) (tiles : ℕ) (before : List PlacedPart) → SotInRange sot → AreSegments (kind_of packed sot) comps [] new → sot.tile < tiles → comes_out_of_turn before sot ≡ false
+      → IsTilePart packed comps tiles before written_of
   unfolding written_of
-  is_part tiles before range header tile turn = record { range = range; header = header; tile = tile; turn = turn }
+  is_part packed tiles before range header tile turn = record { range = range; header = header; tile = tile; turn = turn }
 
   is_long : sot.psot ≡ 0 → end_of b at sot ≡ length b - 2
   is_long h = rw (eq-eqb sot.psot 0 h) refl
@@ -351,21 +372,21 @@ module _ (comps : ℕ) (b : List ℕ) (at : ℕ) (sot : Sot) (header : Header) (
       let end : end_of b at sot ≡ at + sot.psot = rw h refl in
       omega (arith, end, part_size)
 
-pub part_written : (comps tiles : ℕ) (b : List ℕ) (before : List PlacedPart) (at : ℕ) → AreBytes b → marker_at b at EOC ≡ false → fault_after comps tiles b before at ≡ None
-    → PartWritten comps tiles b before at (part_at comps b at)
-part_written comps tiles b before at are goes none =
+pub part_written : (packed : Bool) (comps tiles : ℕ) (b : List ℕ) (before : List PlacedPart) (at : ℕ) → AreBytes b → marker_at b at EOC ≡ false → fault_after packed comps tiles b before at ≡ None
+    → PartWritten packed comps tiles b before at (part_at packed comps b at)
+part_written packed comps tiles b before at are goes none =
     let sot = sot_in b at in
-    let header = part_header comps b at in
-    let clear = part_clear comps tiles b (comes_out_of_turn before sot) at none in
+    let header = part_header packed comps b at in
+    let clear = part_clear packed comps tiles b (comes_out_of_turn before sot) at none in
     let start = start_rules comps b at clear.start goes in
     let fits = sot_clear tiles b at sot (comes_out_of_turn before sot) clear.sot in
     let ending = sod_clear b at sot header.end clear.sod in
     let P : Segment → Type 0 = λ s. BeginsWith comps (drop at b) s (drop (size_at (drop at b)) (drop at b)) in
     let begins = subst P (sot_stands comps b at start.0) (begins_at comps b at are start.1) in
     let size = takes comps (drop at b) (drop (size_at (drop at b)) (drop at b)) (segment.Sot sot) begins in
-    let w = walked (kind_of sot) comps b (length b) [] (after_sot b at) are in
-    let last = is_clear (kind_of sot) comps b header.segments header.end clear.header in
-    let sod : segment_at comps (drop header.end b) ≡ segment.Sod = sod_ends sot (segment_at comps (drop header.end b)) (header_ends (kind_of sot) comps b (after_sot b at) clear.header) last.stands in
+    let w = walked (kind_of packed sot) comps b (length b) [] (after_sot b at) are in
+    let last = is_clear (kind_of packed sot) comps b header.segments header.end clear.header in
+    let sod : segment_at comps (drop header.end b) ≡ segment.Sod = sod_ends packed sot (segment_at comps (drop header.end b)) (header_ends (kind_of packed sot) comps b (after_sot b at) clear.header) last.stands in
     let Q : Segment → Type 0 = λ s. BeginsWith comps (drop header.end b) s (drop (size_at (drop header.end b)) (drop header.end b)) in
     let begins_sod = subst Q sod (begins_at comps b header.end are last.rules) in
     let size_sod : size_at (drop header.end b) ≡ 2 = takes comps (drop header.end b) (drop (size_at (drop header.end b)) (drop header.end b)) segment.Sod begins_sod in
@@ -374,14 +395,14 @@ part_written comps tiles b before at are goes none =
     let third : drop header.end b ≡ spelling comps segment.Sod ++ drop (header.end + 2) b =
     begins_sod.spelled ∙ ap (λ (x : List ℕ). spelling comps segment.Sod ++ x) (ap (λ (n : ℕ). drop n (drop header.end b)) size_sod ∙ drop-drop 2 header.end b) in
     let first : drop at b ≡ spelling comps (segment.Sot sot) ++ drop (at + size_at (drop at b)) b = begins.spelled ∙ ap (λ (x : List ℕ). spelling comps (segment.Sot sot) ++ x) (drop-drop (size_at (drop at b)) at b) in
-    let end : end_of_part (part_at comps b at) ≡ end_of b at sot = ap end_of_part (part_shape comps b at) ∙ omega (arith, ending.within) in
-    let R : Sot → Type 0 = λ s. (s.psot ≡ length (part_bytes comps written)) ⊎ ((s.psot ≡ 0) × (end_of_part (part_at comps b at) ≡ length b - 2) × (marker_at b (length b - 2) EOC ≡ true)) in
+    let end : end_of_part (part_at packed comps b at) ≡ end_of b at sot = ap end_of_part (part_shape packed comps b at) ∙ omega (arith, ending.within) in
+    let R : Sot → Type 0 = λ s. (s.psot ≡ length (part_bytes comps written)) ⊎ ((s.psot ≡ 0) × (end_of_part (part_at packed comps b at) ≡ length b - 2) × (marker_at b (length b - 2) EOC ≡ true)) in
     record {
       written = written;
-      placed = part_shape comps b at ∙ is_placed comps b at sot header w.new (size_at (drop at b)) sizes header.segments w.all;
+      placed = part_shape packed comps b at ∙ is_placed comps b at sot header w.new (size_at (drop at b)) sizes header.segments w.all;
       spelled = is_written comps b at sot header w.new (size_at (drop at b)) sizes first w.spelled third ∙ ap (λ (n : ℕ). part_bytes comps written ++ drop n b) (sym end);
       end = end ∙ sym (part_size comps b at sot header w.new (size_at (drop at b)) sizes);
-      is = is_part comps b at sot header w.new (size_at (drop at b)) sizes tiles before begins.range w.are fits.tile fits.turn;
+      is = is_part comps b at sot header w.new (size_at (drop at b)) sizes packed tiles before begins.range w.are fits.tile fits.turn;
       length = subst R (sym (written_sot comps b at sot header w.new (size_at (drop at b)) sizes)) (elim (zero_or_not sot.psot) [
         | inl z ↦ inr (z, end ∙ is_long comps b at sot header w.new (size_at (drop at b)) sizes z, ending.last z)
         | inr f ↦ inl (names_length comps b at sot header w.new (size_at (drop at b)) sizes f)
@@ -390,21 +411,21 @@ part_written comps tiles b before at are goes none =
 
 -- tile-parts that were walked over
 
-pub record PartsWritten (comps tiles : ℕ) (b : List ℕ) (before : List PlacedPart) (at : ℕ) (res : Parts) : Type 0 where
+pub record PartsWritten (packed : Bool) (comps tiles : ℕ) (b : List ℕ) (before : List PlacedPart) (at : ℕ) (res : Parts) : Type 0 where
   pub new : List TilePart
   pub all : res.parts ≡ before ++ placed comps at new
   pub spelled : drop at b ≡ flat_map (part_bytes comps) new ++ drop res.end b
-  pub are : (rest : List ℕ) → rest ≡ drop (res.end + 2) b → AreTileParts comps tiles rest before at new
+  pub are : (rest : List ℕ) → rest ≡ drop (res.end + 2) b → AreTileParts packed comps tiles rest before at new
   pub size : res.end ≡ at + length (flat_map (part_bytes comps) new)
 
-parts_none : (comps tiles : ℕ) (b : List ℕ) (before : List PlacedPart) (at : ℕ) → PartsWritten comps tiles b before at (record { parts = before; end = at })
-parts_none comps tiles b before at = record { new = []; all = sym (append-nil before); spelled = refl; are = λ rest same. tt; size = omega arith }
+parts_none : (packed : Bool) (comps tiles : ℕ) (b : List ℕ) (before : List PlacedPart) (at : ℕ) → PartsWritten packed comps tiles b before at (record { parts = before; end = at })
+parts_none packed comps tiles b before at = record { new = []; all = sym (append-nil before); spelled = refl; are = λ rest same. tt; size = omega arith }
 
 -- one that names its length, and others after it
-parts_and : (comps tiles : ℕ) (b : List ℕ) (before : List PlacedPart) (at : ℕ) (res : Parts) (p : TilePart) → IsTilePart comps tiles before p → p.sot.psot ≡ length (part_bytes comps p)
+parts_and : (packed : Bool) (comps tiles : ℕ) (b : List ℕ) (before : List PlacedPart) (at : ℕ) (res : Parts) (p : TilePart) → IsTilePart packed comps tiles before p → p.sot.psot ≡ length (part_bytes comps p)
     → drop at b ≡ part_bytes comps p ++ drop (at + length (part_bytes comps p)) b
-    → PartsWritten comps tiles b (before ++ part_of comps at p ∷ []) (at + length (part_bytes comps p)) res → PartsWritten comps tiles b before at res
-parts_and comps tiles b before at res p is named spelled later = record {
+    → PartsWritten packed comps tiles b (before ++ part_of comps at p ∷ []) (at + length (part_bytes comps p)) res → PartsWritten packed comps tiles b before at res
+parts_and packed comps tiles b before at res p is named spelled later = record {
   new = p ∷ later.new;
   all = later.all ∙ append_assoc before (part_of comps at p ∷ []) (placed comps (at + length (part_bytes comps p)) later.new);
   spelled = spelled ∙ ap (λ (x : List ℕ). part_bytes comps p ++ x) later.spelled ∙ sym (append_assoc (part_bytes comps p) (flat_map (part_bytes comps) later.new) (drop res.end b));
@@ -413,10 +434,10 @@ parts_and comps tiles b before at res p is named spelled later = record {
 }
 
 -- the last one, up to EOC at the end of the file
-parts_last : (comps tiles : ℕ) (b : List ℕ) (before : List PlacedPart) (at : ℕ) (p : TilePart) → IsTilePart comps tiles before p → p.sot.psot ≡ 0
+parts_last : (packed : Bool) (comps tiles : ℕ) (b : List ℕ) (before : List PlacedPart) (at : ℕ) (p : TilePart) → IsTilePart packed comps tiles before p → p.sot.psot ≡ 0
     → drop at b ≡ part_bytes comps p ++ drop (at + length (part_bytes comps p)) b → at + length (part_bytes comps p) ≡ length b - 2
-    → PartsWritten comps tiles b before at (record { parts = before ++ part_of comps at p ∷ []; end = at + length (part_bytes comps p) })
-parts_last comps tiles b before at p is none spelled end = record {
+    → PartsWritten packed comps tiles b before at (record { parts = before ++ part_of comps at p ∷ []; end = at + length (part_bytes comps p) })
+parts_last packed comps tiles b before at p is none spelled end = record {
   new = p ∷ [];
   all = refl;
   spelled = spelled ∙ ap (λ (x : List ℕ). x ++ drop (at + length (part_bytes comps p)) b) (sym (append-nil (part_bytes comps p)));
@@ -428,55 +449,55 @@ last_same : (before : List PlacedPart) (one other : PlacedPart) (end place : ℕ
     → ◌≡◌ {A = Parts} (record { parts = before ++ one ∷ []; end = end }) (record { parts = before ++ other ∷ []; end = place })
 last_same before one other end place same ends = rw (same, ends) refl
 
-parts_more_written : (comps tiles : ℕ) (b : List ℕ) (n : ℕ) (before : List PlacedPart) (at : ℕ) → AreBytes b → marker_at b at EOC ≡ false → fault_after comps tiles b before at ≡ None
-    → PartsWritten comps tiles b (before ++ part_at comps b at ∷ []) (end_of_part (part_at comps b at)) (longest_parts comps tiles b n (before ++ part_at comps b at ∷ []) (end_of_part (part_at comps b at)))
-    → PartsWritten comps tiles b before at (longest_parts comps tiles b n (before ++ part_at comps b at ∷ []) (end_of_part (part_at comps b at)))
-parts_more_written comps tiles b n before at are goes none later =
-    let here = part_written comps tiles b before at are goes none in
+parts_more_written : (packed : Bool) (comps tiles : ℕ) (b : List ℕ) (n : ℕ) (before : List PlacedPart) (at : ℕ) → AreBytes b → marker_at b at EOC ≡ false → fault_after packed comps tiles b before at ≡ None
+    → PartsWritten packed comps tiles b (before ++ part_at packed comps b at ∷ []) (end_of_part (part_at packed comps b at)) (longest_parts packed comps tiles b n (before ++ part_at packed comps b at ∷ []) (end_of_part (part_at packed comps b at)))
+    → PartsWritten packed comps tiles b before at (longest_parts packed comps tiles b n (before ++ part_at packed comps b at ∷ []) (end_of_part (part_at packed comps b at)))
+parts_more_written packed comps tiles b n before at are goes none later =
+    let here = part_written packed comps tiles b before at are goes none in
     let p = here.written in
     let spelled : drop at b ≡ part_bytes comps p ++ drop (at + length (part_bytes comps p)) b = here.spelled ∙ ap (λ (m : ℕ). part_bytes comps p ++ drop m b) here.end in
     elim here.length [
       | inl named ↦
-          let P : ℕ → Type 0 = λ m. PartsWritten comps tiles b (before ++ part_at comps b at ∷ []) m (longest_parts comps tiles b n (before ++ part_at comps b at ∷ []) (end_of_part (part_at comps b at))) in
-          let Q : PlacedPart → Type 0 = λ x. PartsWritten comps tiles b (before ++ x ∷ []) (at + length (part_bytes comps p)) (longest_parts comps tiles b n (before ++ part_at comps b at ∷ []) (end_of_part (part_at comps b at))) in
-          parts_and comps tiles b before at (longest_parts comps tiles b n (before ++ part_at comps b at ∷ []) (end_of_part (part_at comps b at))) p here.is named spelled (subst Q here.placed (subst P here.end later))
+          let P : ℕ → Type 0 = λ m. PartsWritten packed comps tiles b (before ++ part_at packed comps b at ∷ []) m (longest_parts packed comps tiles b n (before ++ part_at packed comps b at ∷ []) (end_of_part (part_at packed comps b at))) in
+          let Q : PlacedPart → Type 0 = λ x. PartsWritten packed comps tiles b (before ++ x ∷ []) (at + length (part_bytes comps p)) (longest_parts packed comps tiles b n (before ++ part_at packed comps b at ∷ []) (end_of_part (part_at packed comps b at))) in
+          parts_and packed comps tiles b before at (longest_parts packed comps tiles b n (before ++ part_at packed comps b at ∷ []) (end_of_part (part_at packed comps b at))) p here.is named spelled (subst Q here.placed (subst P here.end later))
       | inr last ↦
-          let eoc : marker_at b (end_of_part (part_at comps b at)) EOC ≡ true = ap (λ (m : ℕ). marker_at b m EOC) last.1 ∙ last.2 in
-          let stop = parts_stopped comps tiles b n (before ++ part_at comps b at ∷ []) (end_of_part (part_at comps b at)) (stop_at_eoc comps tiles b (before ++ part_at comps b at ∷ []) (end_of_part (part_at comps b at)) eoc) in
-          let same : longest_parts comps tiles b n (before ++ part_at comps b at ∷ []) (end_of_part (part_at comps b at)) ≡ record { parts = before ++ part_of comps at p ∷ []; end = at + length (part_bytes comps p) } =
-          stop ∙ last_same before (part_at comps b at) (part_of comps at p) (end_of_part (part_at comps b at)) (at + length (part_bytes comps p)) here.placed here.end in
-          let R : Parts → Type 0 = λ x. PartsWritten comps tiles b before at x in
-          subst R (sym same) (parts_last comps tiles b before at p here.is last.0 spelled (sym here.end ∙ last.1))
+          let eoc : marker_at b (end_of_part (part_at packed comps b at)) EOC ≡ true = ap (λ (m : ℕ). marker_at b m EOC) last.1 ∙ last.2 in
+          let stop = parts_stopped packed comps tiles b n (before ++ part_at packed comps b at ∷ []) (end_of_part (part_at packed comps b at)) (stop_at_eoc packed comps tiles b (before ++ part_at packed comps b at ∷ []) (end_of_part (part_at packed comps b at)) eoc) in
+          let same : longest_parts packed comps tiles b n (before ++ part_at packed comps b at ∷ []) (end_of_part (part_at packed comps b at)) ≡ record { parts = before ++ part_of comps at p ∷ []; end = at + length (part_bytes comps p) } =
+          stop ∙ last_same before (part_at packed comps b at) (part_of comps at p) (end_of_part (part_at packed comps b at)) (at + length (part_bytes comps p)) here.placed here.end in
+          let R : Parts → Type 0 = λ x. PartsWritten packed comps tiles b before at x in
+          subst R (sym same) (parts_last packed comps tiles b before at p here.is last.0 spelled (sym here.end ∙ last.1))
     ]
 
-pub goes_on_at : (comps tiles : ℕ) (b : List ℕ) (parts : List PlacedPart) (at : ℕ) → parts_stop comps tiles b parts at ≡ false → marker_at b at EOC ≡ false
+pub goes_on_at : (packed : Bool) (comps tiles : ℕ) (b : List ℕ) (parts : List PlacedPart) (at : ℕ) → parts_stop packed comps tiles b parts at ≡ false → marker_at b at EOC ≡ false
 unfolding parts_stop
-goes_on_at comps tiles b parts at h = (or_parts (marker_at b at EOC) (is_some (fault_after comps tiles b parts at)) h).0
+goes_on_at packed comps tiles b parts at h = (or_parts (marker_at b at EOC) (is_some (fault_after packed comps tiles b parts at)) h).0
 
-pub parts_written : (comps tiles : ℕ) (b : List ℕ) (n : ℕ) (before : List PlacedPart) (at : ℕ) → AreBytes b → PartsWritten comps tiles b before at (longest_parts comps tiles b n before at)
+pub parts_written : (packed : Bool) (comps tiles : ℕ) (b : List ℕ) (n : ℕ) (before : List PlacedPart) (at : ℕ) → AreBytes b → PartsWritten packed comps tiles b before at (longest_parts packed comps tiles b n before at)
 unfolding longest_parts
-parts_written comps tiles b zero before at are = parts_none comps tiles b before at
-parts_written comps tiles b (suc n) before at are =
-    let P : Parts → Type 0 = λ x. PartsWritten comps tiles b before at x in
-    elim (cases_Bool (parts_stop comps tiles b before at)) [
-      | inl t ↦ subst P (sym (parts_stopped comps tiles b (suc n) before at t)) (parts_none comps tiles b before at)
-      | inr f ↦ subst P (sym (parts_going comps tiles b n before at f))
-          (parts_more_written comps tiles b n before at are (goes_on_at comps tiles b before at f) (goes_clear comps tiles b before at f)
-          (parts_written comps tiles b n (before ++ part_at comps b at ∷ []) (end_of_part (part_at comps b at)) are))
+parts_written packed comps tiles b zero before at are = parts_none packed comps tiles b before at
+parts_written packed comps tiles b (suc n) before at are =
+    let P : Parts → Type 0 = λ x. PartsWritten packed comps tiles b before at x in
+    elim (cases_Bool (parts_stop packed comps tiles b before at)) [
+      | inl t ↦ subst P (sym (parts_stopped packed comps tiles b (suc n) before at t)) (parts_none packed comps tiles b before at)
+      | inr f ↦ subst P (sym (parts_going packed comps tiles b n before at f))
+          (parts_more_written packed comps tiles b n before at are (goes_on_at packed comps tiles b before at f) (goes_clear packed comps tiles b before at f)
+          (parts_written packed comps tiles b n (before ++ part_at packed comps b at ∷ []) (end_of_part (part_at packed comps b at)) are))
     ]
 
-parts_end_there : (comps tiles : ℕ) (b : List ℕ) (n : ℕ) (before : List PlacedPart) (at : ℕ) → length b - at ≤ n
-    → parts_stop comps tiles b (longest_parts comps tiles b n before at).parts (longest_parts comps tiles b n before at).end ≡ true
+parts_end_there : (packed : Bool) (comps tiles : ℕ) (b : List ℕ) (n : ℕ) (before : List PlacedPart) (at : ℕ) → length b - at ≤ n
+    → parts_stop packed comps tiles b (longest_parts packed comps tiles b n before at).parts (longest_parts packed comps tiles b n before at).end ≡ true
 unfolding longest_parts
-parts_end_there comps tiles b zero before at h = stop_past comps tiles b before at (omega arith)
-parts_end_there comps tiles b (suc n) before at h =
-    let P : Parts → Type 0 = λ x. parts_stop comps tiles b x.parts x.end ≡ true in
-    elim (cases_Bool (parts_stop comps tiles b before at)) [
-      | inl t ↦ subst P (sym (parts_stopped comps tiles b (suc n) before at t)) t
+parts_end_there packed comps tiles b zero before at h = stop_past packed comps tiles b before at (omega arith)
+parts_end_there packed comps tiles b (suc n) before at h =
+    let P : Parts → Type 0 = λ x. parts_stop packed comps tiles b x.parts x.end ≡ true in
+    elim (cases_Bool (parts_stop packed comps tiles b before at)) [
+      | inl t ↦ subst P (sym (parts_stopped packed comps tiles b (suc n) before at t)) t
       | inr f ↦
-          let rises : at < end_of_part (part_at comps b at) = part_rises comps tiles b (comes_out_of_turn before (sot_in b at)) at (goes_clear comps tiles b before at f) in
-          let fewer : length b - end_of_part (part_at comps b at) ≤ n = omega arith in
-          subst P (sym (parts_going comps tiles b n before at f)) (parts_end_there comps tiles b n (before ++ part_at comps b at ∷ []) (end_of_part (part_at comps b at)) fewer)
+          let rises : at < end_of_part (part_at packed comps b at) = part_rises packed comps tiles b (comes_out_of_turn before (sot_in b at)) at (goes_clear packed comps tiles b before at f) in
+          let fewer : length b - end_of_part (part_at packed comps b at) ≤ n = omega arith in
+          subst P (sym (parts_going packed comps tiles b n before at f)) (parts_end_there packed comps tiles b n (before ++ part_at packed comps b at ∷ []) (end_of_part (part_at packed comps b at)) fewer)
     ]
 
 no_stop : (x : Bool) (e : Option StreamFault) → x ≡ false → e ≡ None → (x || is_some e) ≡ true → ⊥
@@ -484,17 +505,17 @@ no_stop true e f none h = cc
 no_stop false None f none h = cc
 no_stop false (Some e) f none h = cc
 
-eoc_of_stop : (comps tiles : ℕ) (b : List ℕ) (parts : List PlacedPart) (at : ℕ) → parts_stop comps tiles b parts at ≡ true → cond (marker_at b at EOC) None (fault_after comps tiles b parts at) ≡ None → marker_at b at EOC ≡ true
+eoc_of_stop : (packed : Bool) (comps tiles : ℕ) (b : List ℕ) (parts : List PlacedPart) (at : ℕ) → parts_stop packed comps tiles b parts at ≡ true → cond (marker_at b at EOC) None (fault_after packed comps tiles b parts at) ≡ None → marker_at b at EOC ≡ true
 unfolding parts_stop
-eoc_of_stop comps tiles b parts at stop clear =
+eoc_of_stop packed comps tiles b parts at stop clear =
     elim (cases_Bool (marker_at b at EOC)) [
       | inl t ↦ t
       | inr f ↦
-          let none : fault_after comps tiles b parts at ≡ None = rw f at clear in
-          absurd (no_stop (marker_at b at EOC) (fault_after comps tiles b parts at) f none stop)
+          let none : fault_after packed comps tiles b parts at ≡ None = rw f at clear in
+          absurd (no_stop (marker_at b at EOC) (fault_after packed comps tiles b parts at) f none stop)
     ]
 
 -- where nothing is violated EOC stands after the tile-parts
-pub eoc_there : (comps tiles : ℕ) (b : List ℕ) (at : ℕ) → parts_fault comps tiles b at ≡ None → marker_at b (parts_from comps tiles b at).end EOC ≡ true
-eoc_there comps tiles b at clear =
-    eoc_of_stop comps tiles b (parts_from comps tiles b at).parts (parts_from comps tiles b at).end (parts_end_there comps tiles b (length b) [] at (omega arith)) clear
+pub eoc_there : (packed : Bool) (comps tiles : ℕ) (b : List ℕ) (at : ℕ) → parts_fault packed comps tiles b at ≡ None → marker_at b (parts_from packed comps tiles b at).end EOC ≡ true
+eoc_there packed comps tiles b at clear =
+    eoc_of_stop packed comps tiles b (parts_from packed comps tiles b at).parts (parts_from packed comps tiles b at).end (parts_end_there packed comps tiles b (length b) [] at (omega arith)) clear

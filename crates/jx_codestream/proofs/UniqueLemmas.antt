@@ -1,5 +1,5 @@
 -- The stream that a file spells is the one that stands in it, and no rule is violated.
-use Rattle.std.proofs.Common.{◌≡◌, ◌∙◌, ◌<◌, ◌+◌, ℕ, true, false, arith, List, [], ◌∷◌, ◌++◌, length, drop, refl, sym, ap, subst, Option, Some, None, cond, nat_lt, ◌⊎◌, inl, inr, Result, Ok, Err}
+use Rattle.std.proofs.Common.{◌≡◌, ◌∙◌, ◌<◌, ◌+◌, ℕ, Bool, true, false, arith, List, [], ◌∷◌, ◌++◌, length, drop, refl, sym, ap, subst, Option, Some, None, cond, nat_lt, ◌⊎◌, inl, inr, Result, Ok, Err}
 use Rattle.std.specs.List.{flat_map, find}
 use Rattle.std.specs.Option.{option_or}
 use Rattle.std.proofs.lemmas.List.{append_assoc}
@@ -16,15 +16,17 @@ use Rattle.jx_codestream.specs.declared.parts.PlacedPart.{PlacedPart}
 use Rattle.jx_codestream.specs.declared.Stream.{Stream}
 use Rattle.jx_codestream.specs.declared.Tile.{Tile}
 use Rattle.jx_codestream.specs.Faults.{broken, IsCause, Answers}
-use Rattle.jx_codestream.specs.Headers.{header_at, header_fault}
+use Rattle.jx_codestream.specs.Headers.{has_packed, header_at, header_fault}
+use Rattle.jx_codestream.specs.declared.packed.PackedSegment.{PackedSegment}
+use Rattle.jx_codestream.specs.PackedHeaders.{packed_from, shares_fault, with_shares}
 use Rattle.jx_codestream.specs.Parts.{marker_at, Parts, parts_from, parts_fault, fault_after}
 use Rattle.jx_codestream.specs.Tiles.{tiles_of}
 use Rattle.jx_codestream.specs.Params.{tile_has_too_few, tile_planes, rule_9_of, limit_4_of, planes_fault}
 use Rattle.jx_codestream.specs.First.{tile_number, siz_of, after_siz, front_fault, tiles_fault, lacks_default, main_header, main_fault, parts_after, lacks_part, body_fault, stream_from, stream_in, parameters_fault, later_fault, first_fault}
-use Rattle.jx_codestream.specs.Spells.{TilePart, all_bytes, part_bytes, placed, AreSegments, AreTileParts, first_sot, Spells}
+use Rattle.jx_codestream.specs.Spells.{TilePart, all_bytes, part_bytes, placed, AreSegments, AreTileParts, first_sot, main_packed, Spells}
 use Rattle.jx_codestream.specs.Read.{IsRead}
 use Rattle.jx_codestream.proofs.FaultLemmas.{none_of_both, none_first, none_later, broken_false}
-use Rattle.jx_codestream.proofs.FirstLemmas.{siz_stands, front_clear}
+use Rattle.jx_codestream.proofs.FirstLemmas.{siz_stands, front_clear, parts_test, lacks_test, shares_test}
 use Rattle.jx_codestream.proofs.SpellLemmas.{regroup}
 use Rattle.jx_codestream.proofs.OneLemmas.{stands_there, drop_on, header_read, header_clear}
 use Rattle.jx_codestream.proofs.PartsReadLemmas.{marker_is, parts_read}
@@ -38,10 +40,10 @@ record MainRead (comps : ℕ) (b : List ℕ) (main : List Segment) (start : ℕ)
   pub header : header_at Main comps b start ≡ record { segments = main; end = start + length (all_bytes comps main) }
   pub clear : header_fault Main comps b start ≡ None
 
-main_read : (comps tiles : ℕ) (b rest tail : List ℕ) (main : List Segment) (parts : List TilePart) (before : List PlacedPart) (at start : ℕ) → 0 < length parts → AreTileParts comps tiles rest before at parts
+main_read : (packed : Bool) (comps tiles : ℕ) (b rest tail : List ℕ) (main : List Segment) (parts : List TilePart) (before : List PlacedPart) (at start : ℕ) → 0 < length parts → AreTileParts packed comps tiles rest before at parts
     → AreSegments Main comps [] main → drop start b ≡ all_bytes comps main ++ (flat_map (part_bytes comps) parts ++ tail) → MainRead comps b main start
-main_read comps tiles b rest tail main [] before at start some are segments h = absurd (omega arith)
-main_read comps tiles b rest tail main (p ∷ ps) before at start some are segments h =
+main_read packed comps tiles b rest tail main [] before at start some are segments h = absurd (omega arith)
+main_read packed comps tiles b rest tail main (p ∷ ps) before at start some are segments h =
     let more = flat_map (part_bytes comps) ps ++ tail in
     let later = all_bytes comps p.header ++ (spelling comps segment.Sod ++ (p.body ++ more)) in
     let front : drop start b ≡ all_bytes comps main ++ (spelling comps (segment.Sot p.sot) ++ later) =
@@ -55,44 +57,56 @@ main_read comps tiles b rest tail main (p ∷ ps) before at start some are segme
 -- the main header and the tile-parts, from their bytes
 pub record BodyOver (comps tiles : ℕ) (b : List ℕ) (main : List Segment) (parts : List TilePart) (start : ℕ) : Type 0 where
   pub main_clear : main_fault comps b start ≡ None
-  pub parts_clear : parts_fault comps tiles b (main_header comps b start).end ≡ None
+  pub parts_clear : parts_test comps tiles b start ≡ None
   pub segments : (main_header comps b start).segments ≡ main
   pub all : (parts_after comps tiles b start).parts ≡ placed comps (start + length (all_bytes comps main)) parts
   pub end : (parts_after comps tiles b start).end ≡ start + length (all_bytes comps main) + length (flat_map (part_bytes comps) parts)
 
-pub body_over : (comps tiles : ℕ) (b rest : List ℕ) (main : List Segment) (parts : List TilePart) (start : ℕ) → 0 < length parts → AreTileParts comps tiles rest [] (start + length (all_bytes comps main)) parts
+pub body_over : (comps tiles : ℕ) (b rest : List ℕ) (main : List Segment) (parts : List TilePart) (start : ℕ) → 0 < length parts → AreTileParts (has_packed main) comps tiles rest [] (start + length (all_bytes comps main)) parts
     → AreSegments Main comps [] main → lacks_default main ≡ false → drop start b ≡ all_bytes comps main ++ (flat_map (part_bytes comps) parts ++ (0xFF ∷ EOC ∷ rest)) → BodyOver comps tiles b main parts start
 unfolding main_fault
 body_over comps tiles b rest main parts start some are segments_fit defaults h =
-    let read = main_read comps tiles b rest (0xFF ∷ EOC ∷ rest) main parts [] (start + length (all_bytes comps main)) start some are segments_fit h in
+    let packed = has_packed main in
+    let read = main_read packed comps tiles b rest (0xFF ∷ EOC ∷ rest) main parts [] (start + length (all_bytes comps main)) start some are segments_fit h in
     let place = start + length (all_bytes comps main) in
     let there : drop place b ≡ flat_map (part_bytes comps) parts ++ (0xFF ∷ EOC ∷ rest) =
     drop_on b start (length (all_bytes comps main)) (all_bytes comps main) (flat_map (part_bytes comps) parts ++ (0xFF ∷ EOC ∷ rest)) h refl in
-    let walked = parts_read comps tiles b parts [] place rest are there in
+    let walked = parts_read packed comps tiles b parts [] place rest are there in
     let end = place + length (flat_map (part_bytes comps) parts) in
     let eoc : marker_at b end EOC ≡ true = marker_is b end EOC rest (drop_on b place (length (flat_map (part_bytes comps) parts)) (flat_map (part_bytes comps) parts) (0xFF ∷ EOC ∷ rest) there refl) in
     let segments_are : (main_header comps b start).segments ≡ main = ap (λ (x : Header). x.segments) read.header in
     let end_is : (main_header comps b start).end ≡ place = ap (λ (x : Header). x.end) read.header in
-    let after : parts_after comps tiles b start ≡ record { parts = placed comps place parts; end = end } = ap (λ (n : ℕ). parts_from comps tiles b n) end_is ∙ walked in
+    let after : parts_after comps tiles b start ≡ record { parts = placed comps place parts; end = end } =
+    ap (λ (x : List Segment). parts_from (has_packed x) comps tiles b (main_header comps b start).end) segments_are ∙ ap (λ (n : ℕ). parts_from packed comps tiles b n) end_is ∙ walked in
     record {
       main_clear = none_of_both (header_fault Main comps b start) (broken NO_DEFAULTS (main_header comps b start).end (lacks_default (main_header comps b start).segments)) read.clear
           (broken_false NO_DEFAULTS (main_header comps b start).end (lacks_default (main_header comps b start).segments) (ap lacks_default segments_are ∙ defaults));
-      parts_clear = ap (λ (x : Parts). cond (marker_at b x.end EOC) None (fault_after comps tiles b x.parts x.end)) after ∙ rw eoc refl;
+      parts_clear = ap (λ (x : Parts). cond (marker_at b x.end EOC) None (fault_after (has_packed (main_header comps b start).segments) comps tiles b x.parts x.end)) after ∙ rw eoc refl;
       segments = segments_are;
       all = ap (λ (x : Parts). x.parts) after;
       end = ap (λ (x : Parts). x.end) after;
     }
 
--- the same, and each tile has a tile-part
+-- the shares are those of these tile-parts
+pub shares_are : (comps tiles : ℕ) (b : List ℕ) (main : List Segment) (parts : List TilePart) (start : ℕ) → BodyOver comps tiles b main parts start
+    → shares_test comps tiles b start ≡ shares_fault b (packed_from comps start main) (placed comps (start + length (all_bytes comps main)) parts)
+shares_are comps tiles b main parts start over =
+    ap (λ (x : List Segment). shares_fault b (packed_from comps start x) (parts_after comps tiles b start).parts) over.segments
+    ∙ ap (λ (x : List PlacedPart). shares_fault b (packed_from comps start main) x) over.all
+
+-- the same, and each tile has a tile-part and its share
 pub body_read : (comps tiles : ℕ) (b : List ℕ) (main : List Segment) (parts : List TilePart) (start : ℕ) → BodyOver comps tiles b main parts start
-    → lacks_part (placed comps (start + length (all_bytes comps main)) parts) tiles ≡ false → body_fault comps tiles b start ≡ None
+    → lacks_part (placed comps (start + length (all_bytes comps main)) parts) tiles ≡ false
+    → shares_fault b (packed_from comps start main) (placed comps (start + length (all_bytes comps main)) parts) ≡ None → body_fault comps tiles b start ≡ None
 unfolding body_fault
-body_read comps tiles b main parts start over each =
-    none_of_both (main_fault comps b start)
-    (option_or (parts_fault comps tiles b (main_header comps b start).end) (broken NO_PART (parts_after comps tiles b start).end (lacks_part (parts_after comps tiles b start).parts tiles)))
-    over.main_clear
-    (none_of_both (parts_fault comps tiles b (main_header comps b start).end) (broken NO_PART (parts_after comps tiles b start).end (lacks_part (parts_after comps tiles b start).parts tiles)) over.parts_clear
-    (broken_false NO_PART (parts_after comps tiles b start).end (lacks_part (parts_after comps tiles b start).parts tiles) (ap (λ (x : List PlacedPart). lacks_part x tiles) over.all ∙ each)))
+body_read comps tiles b main parts start over each shared =
+    let lacks = lacks_test comps tiles b start in
+    let shares = shares_test comps tiles b start in
+    none_of_both (main_fault comps b start) (option_or (parts_test comps tiles b start) (option_or lacks shares)) over.main_clear
+    (none_of_both (parts_test comps tiles b start) (option_or lacks shares) over.parts_clear
+    (none_of_both lacks shares
+    (broken_false NO_PART (parts_after comps tiles b start).end (lacks_part (parts_after comps tiles b start).parts tiles) (ap (λ (x : List PlacedPart). lacks_part x tiles) over.all ∙ each))
+    (shares_are comps tiles b main parts start over ∙ shared)))
 
 -- the front
 pub record FrontRead (b : List ℕ) (siz : Siz) (later : List ℕ) : Type 0 where
@@ -134,9 +148,9 @@ unfolding first_fault
 first_is b siz clear same = ap (λ (x : Option StreamFault). option_or x (later_fault (siz_of b) b (after_siz b))) clear ∙ ap (λ (x : Siz). later_fault x b (after_siz b)) same
 
 pub stream_made : (siz : Siz) (b : List ℕ) (start : ℕ) (main : List Segment) (all : List PlacedPart) (tiles : List Tile) → (main_header (length siz.comps) b start).segments ≡ main
-    → (parts_after (length siz.comps) (tile_number siz) b start).parts ≡ all → tiles ≡ tiles_of main all (tile_number siz) → stream_from siz b start ≡ record { siz = siz; main = main; tiles = tiles }
+    → (parts_after (length siz.comps) (tile_number siz) b start).parts ≡ all → tiles ≡ tiles_of main (with_shares b (packed_from (length siz.comps) start main) all) (tile_number siz) → stream_from siz b start ≡ record { siz = siz; main = main; tiles = tiles }
 unfolding stream_from
-stream_made siz b start main all tiles of parts made = rw (of, parts, made) refl
+stream_made siz b start main all tiles of parts made = rw (parts, of, made) refl
 
 pub is_read : (b : List ℕ) (s : Stream) → Spells b s → IsTold b s
 is_read b s spells =
@@ -145,12 +159,16 @@ is_read b s spells =
     let later = all_bytes comps s.main ++ (flat_map (part_bytes comps) spells.parts ++ (0xFF ∷ EOC ∷ spells.rest)) in
     let front = front_read b s.siz later spells.siz spells.bytes in
     let start = after_siz b in
+    let own = packed_from comps start s.main in
+    let own_is : own ≡ main_packed s.siz s.main = ap (λ (n : ℕ). packed_from comps n s.main) front.start in
     let place : first_sot s.siz s.main ≡ start + length (all_bytes comps s.main) = ap (λ (n : ℕ). n + length (all_bytes comps s.main)) (sym front.start) in
-    let P : ℕ → Type 0 = λ n. AreTileParts comps tiles spells.rest [] n spells.parts in
+    let P : ℕ → Type 0 = λ n. AreTileParts (has_packed s.main) comps tiles spells.rest [] n spells.parts in
     let body = body_over comps tiles b spells.rest s.main spells.parts start spells.some (subst P place spells.tile_parts) spells.main spells.defaults front.rest in
-    let clear = body_read comps tiles b s.main spells.parts start body (sym (ap (λ (n : ℕ). lacks_part (placed comps n spells.parts) tiles) place) ∙ spells.each) in
-    let made : s.tiles ≡ tiles_of s.main (placed comps (start + length (all_bytes comps s.main)) spells.parts) tiles =
-    spells.tiles ∙ ap (λ (n : ℕ). tiles_of s.main (placed comps n spells.parts) tiles) place in
+    let clear = body_read comps tiles b s.main spells.parts start body (sym (ap (λ (n : ℕ). lacks_part (placed comps n spells.parts) tiles) place) ∙ spells.each)
+    (sym (ap (λ (n : ℕ). shares_fault b own (placed comps n spells.parts)) place) ∙ ap (λ (x : List PackedSegment). shares_fault b x (placed comps (first_sot s.siz s.main) spells.parts)) own_is ∙ spells.packed) in
+    let made : s.tiles ≡ tiles_of s.main (with_shares b own (placed comps (start + length (all_bytes comps s.main)) spells.parts)) tiles =
+    spells.tiles ∙ ap (λ (x : List PackedSegment). tiles_of s.main (with_shares b x (placed comps (first_sot s.siz s.main) spells.parts)) tiles) (sym own_is)
+    ∙ ap (λ (n : ℕ). tiles_of s.main (with_shares b own (placed comps n spells.parts)) tiles) place in
     let same : stream_from s.siz b start ≡ s = stream_made s.siz b start s.main (placed comps (start + length (all_bytes comps s.main)) spells.parts) s.tiles body.segments body.all made in
     record {
       stream = sym (ap (λ (x : Siz). stream_from x b start) front.same ∙ same);

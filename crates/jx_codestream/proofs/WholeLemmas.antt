@@ -17,12 +17,14 @@ use Rattle.jx_codestream.specs.declared.parts.PlacedPart.{PlacedPart}
 use Rattle.jx_codestream.specs.declared.Stream.{Stream}
 use Rattle.jx_codestream.specs.declared.Tile.{Tile}
 use Rattle.jx_codestream.specs.Faults.{broken, rule_at}
-use Rattle.jx_codestream.specs.Headers.{header_fault, ends_header}
+use Rattle.jx_codestream.specs.Headers.{has_packed, header_fault, ends_header}
+use Rattle.jx_codestream.specs.declared.packed.PackedSegment.{PackedSegment}
+use Rattle.jx_codestream.specs.PackedHeaders.{packed_from, shares_fault, with_shares}
 use Rattle.jx_codestream.specs.Parts.{marker_at, Parts, parts_fault}
 use Rattle.jx_codestream.specs.Tiles.{tiles_of}
 use Rattle.jx_codestream.specs.Params.{tile_has_too_few, rule_9_of, entries_fault, planes_fault}
-use Rattle.jx_codestream.specs.First.{tile_number, siz_of, after_siz, front_fault, tiles_fault, lacks_default, main_header, main_fault, parts_after, lacks_part, body_fault, stream_from, stream_in, parameters_fault, later_fault, first_fault}
-use Rattle.jx_codestream.specs.Spells.{TilePart, all_bytes, part_bytes, placed, AreSegments, AreTileParts, first_sot, Spells}
+use Rattle.jx_codestream.specs.First.{tile_number, siz_of, after_siz, front_fault, tiles_fault, lacks_default, main_header, main_fault, packed_after, parts_after, lacks_part, body_fault, stream_from, stream_in, parameters_fault, later_fault, first_fault}
+use Rattle.jx_codestream.specs.Spells.{TilePart, all_bytes, part_bytes, placed, AreSegments, AreTileParts, first_sot, main_packed, Spells}
 use Rattle.jx_codestream.specs.FirstViolated.{IsWhole}
 use Rattle.jx_codestream.proofs.FaultLemmas.{none_first, none_later, broken_none, rule_none}
 use Rattle.jx_codestream.proofs.FirstLemmas.{siz_stands}
@@ -50,23 +52,27 @@ front_is_clear b h =
 pub record BodyClear (comps tiles : ℕ) (b : List ℕ) (start : ℕ) : Type 0 where
   pub header : header_fault Main comps b start ≡ None
   pub defaults : lacks_default (main_header comps b start).segments ≡ false
-  pub parts : parts_fault comps tiles b (main_header comps b start).end ≡ None
+  pub parts : parts_fault (has_packed (main_header comps b start).segments) comps tiles b (main_header comps b start).end ≡ None
   pub each : lacks_part (parts_after comps tiles b start).parts tiles ≡ false
+  pub packed : shares_fault b (packed_after comps b start) (parts_after comps tiles b start).parts ≡ None
 
 pub body_is_clear : (comps tiles : ℕ) (b : List ℕ) (start : ℕ) → body_fault comps tiles b start ≡ None → BodyClear comps tiles b start
 unfolding body_fault main_fault
 body_is_clear comps tiles b start h =
     let header = header_fault Main comps b start in
     let lacks = broken NO_DEFAULTS (main_header comps b start).end (lacks_default (main_header comps b start).segments) in
-    let parts = parts_fault comps tiles b (main_header comps b start).end in
+    let parts = parts_fault (has_packed (main_header comps b start).segments) comps tiles b (main_header comps b start).end in
     let each = broken NO_PART (parts_after comps tiles b start).end (lacks_part (parts_after comps tiles b start).parts tiles) in
-    let main = none_first (option_or header lacks) (option_or parts each) h in
-    let later = none_later (option_or header lacks) (option_or parts each) h in
+    let packed = shares_fault b (packed_after comps b start) (parts_after comps tiles b start).parts in
+    let main = none_first (option_or header lacks) (option_or parts (option_or each packed)) h in
+    let later = none_later (option_or header lacks) (option_or parts (option_or each packed)) h in
+    let last = none_later parts (option_or each packed) later in
     record {
       header = none_first header lacks main;
       defaults = broken_none NO_DEFAULTS (main_header comps b start).end (lacks_default (main_header comps b start).segments) (none_later header lacks main);
-      parts = none_first parts each later;
-      each = broken_none NO_PART (parts_after comps tiles b start).end (lacks_part (parts_after comps tiles b start).parts tiles) (none_later parts each later);
+      parts = none_first parts (option_or each packed) later;
+      each = broken_none NO_PART (parts_after comps tiles b start).end (lacks_part (parts_after comps tiles b start).parts tiles) (none_first each packed last);
+      packed = none_later each packed last;
     }
 
 pub record FileClear (b : List ℕ) : Type 0 where
@@ -153,7 +159,7 @@ pub record WholeSpelled (b : List ℕ) (siz : Siz) (main : List Segment) (res : 
 
 pub up_to_eoc : (b : List ℕ) → AreBytes b → FrontClear b → tiles_fault (siz_of b) ≡ None → header_fault Main (length (siz_of b).comps) b (after_siz b) ≡ None
     → lacks_default (main_header (length (siz_of b).comps) b (after_siz b)).segments ≡ false
-    → parts_fault (length (siz_of b).comps) (tile_number (siz_of b)) b (main_header (length (siz_of b).comps) b (after_siz b)).end ≡ None
+    → parts_fault (has_packed (main_header (length (siz_of b).comps) b (after_siz b)).segments) (length (siz_of b).comps) (tile_number (siz_of b)) b (main_header (length (siz_of b).comps) b (after_siz b)).end ≡ None
     → WholeSpelled b (siz_of b) (main_header (length (siz_of b).comps) b (after_siz b)).segments (parts_after (length (siz_of b).comps) (tile_number (siz_of b)) b (after_siz b))
 up_to_eoc b are clear few header defaults no_part =
     let siz = siz_of b in
@@ -165,10 +171,10 @@ up_to_eoc b are clear few header defaults no_part =
     let res = parts_after comps tiles b start in
     let front = front_spelled b are clear in
     let m = main_spelled b are front in
-    let pw = parts_written comps tiles b (length b) [] place are in
+    let pw = parts_written (has_packed main) comps tiles b (length b) [] place are in
     let rest = drop (res.end + 2) b in
-    let eoc : drop res.end b ≡ 0xFF ∷ EOC ∷ rest = marker_there b res.end EOC (eoc_there comps tiles b place no_part) (omega arith) in
-    let P : ℕ → Type 0 = λ n. AreTileParts comps tiles rest [] n pw.new in
+    let eoc : drop res.end b ≡ 0xFF ∷ EOC ∷ rest = marker_there b res.end EOC (eoc_there (has_packed main) comps tiles b place no_part) (omega arith) in
+    let P : ℕ → Type 0 = λ n. AreTileParts (has_packed main) comps tiles rest [] n pw.new in
     record {
       parts = pw.new;
       rest = rest;
@@ -184,9 +190,10 @@ up_to_eoc b are clear few header defaults no_part =
     }
 
 spells_made : (b : List ℕ) (siz : Siz) (main : List Segment) (res : Parts) → (w : WholeSpelled b siz main res) → lacks_part res.parts (tile_number siz) ≡ false
-    → find (tile_has_too_few main (length siz.comps)) (tiles_of main res.parts (tile_number siz)) ≡ None
-    → Spells b (record { siz = siz; main = main; tiles = tiles_of main res.parts (tile_number siz) })
-spells_made b siz main res w each entries = record {
+    → shares_fault b (main_packed siz main) res.parts ≡ None
+    → find (tile_has_too_few main (length siz.comps)) (tiles_of main (with_shares b (main_packed siz main) res.parts) (tile_number siz)) ≡ None
+    → Spells b (record { siz = siz; main = main; tiles = tiles_of main (with_shares b (main_packed siz main) res.parts) (tile_number siz) })
+spells_made b siz main res w each packed entries = record {
   parts = w.parts;
   rest = w.rest;
   bytes = w.whole.bytes;
@@ -196,17 +203,37 @@ spells_made b siz main res w each entries = record {
   some = w.whole.some;
   tile_parts = w.whole.each;
   each = ap (λ (x : List PlacedPart). lacks_part x (tile_number siz)) (sym w.all) ∙ each;
-  tiles = ap (λ (x : List PlacedPart). tiles_of main x (tile_number siz)) w.all;
+  packed = ap (λ (x : List PlacedPart). shares_fault b (main_packed siz main) x) (sym w.all) ∙ packed;
+  tiles = ap (λ (x : List PlacedPart). tiles_of main (with_shares b (main_packed siz main) x) (tile_number siz)) w.all;
   entries = entries;
 }
 
 pub stream_shape : (b : List ℕ) → stream_in b ≡ record {
   siz = siz_of b;
   main = (main_header (length (siz_of b).comps) b (after_siz b)).segments;
-  tiles = tiles_of (main_header (length (siz_of b).comps) b (after_siz b)).segments (parts_after (length (siz_of b).comps) (tile_number (siz_of b)) b (after_siz b)).parts (tile_number (siz_of b));
+  tiles = tiles_of (main_header (length (siz_of b).comps) b (after_siz b)).segments
+      (with_shares b (packed_after (length (siz_of b).comps) b (after_siz b)) (parts_after (length (siz_of b).comps) (tile_number (siz_of b)) b (after_siz b)).parts) (tile_number (siz_of b));
 }
 unfolding stream_from
 stream_shape b = refl
+
+-- the PPM stand where SIZ ends
+pub packed_same : (b : List ℕ) → FrontSpelled b → packed_after (length (siz_of b).comps) b (after_siz b) ≡ main_packed (siz_of b) (main_header (length (siz_of b).comps) b (after_siz b)).segments
+packed_same b front = ap (λ (n : ℕ). packed_from (length (siz_of b).comps) n (main_header (length (siz_of b).comps) b (after_siz b)).segments) front.start
+
+pub shape_by : (b : List ℕ) → packed_after (length (siz_of b).comps) b (after_siz b) ≡ main_packed (siz_of b) (main_header (length (siz_of b).comps) b (after_siz b)).segments
+    → stream_in b ≡ record {
+      siz = siz_of b;
+      main = (main_header (length (siz_of b).comps) b (after_siz b)).segments;
+      tiles = tiles_of (main_header (length (siz_of b).comps) b (after_siz b)).segments
+          (with_shares b (main_packed (siz_of b) (main_header (length (siz_of b).comps) b (after_siz b)).segments) (parts_after (length (siz_of b).comps) (tile_number (siz_of b)) b (after_siz b)).parts)
+          (tile_number (siz_of b));
+    }
+shape_by b own =
+    let main = (main_header (length (siz_of b).comps) b (after_siz b)).segments in
+    let all = (parts_after (length (siz_of b).comps) (tile_number (siz_of b)) b (after_siz b)).parts in
+    let F : List PackedSegment → Stream = λ x. record { siz = siz_of b; main = main; tiles = tiles_of main (with_shares b x all) (tile_number (siz_of b)) } in
+    stream_shape b ∙ ap F own
 
 -- a file in which no rule is violated spells the stream that stands in it
 pub clear_spelled : (b : List ℕ) → AreBytes b → FileClear b → Spells b (stream_in b)
@@ -219,11 +246,13 @@ clear_spelled b are clear =
     let res = parts_after comps tiles b start in
     let w = up_to_eoc b are clear.front clear.few clear.body.header clear.body.defaults clear.body.parts in
     let S : Stream → Type 0 = λ s. Spells b s in
-    let shape = stream_shape b in
-    let entries : find (tile_has_too_few main comps) (tiles_of main res.parts tiles) ≡ None =
-    nothing_found (find (tile_has_too_few main comps) (tiles_of main res.parts tiles))
+    let own : packed_after comps b start ≡ main_packed siz main = packed_same b (front_spelled b are clear.front) in
+    let shape : stream_in b ≡ record { siz = siz; main = main; tiles = tiles_of main (with_shares b (main_packed siz main) res.parts) tiles } = shape_by b own in
+    let entries : find (tile_has_too_few main comps) (tiles_of main (with_shares b (main_packed siz main) res.parts) tiles) ≡ None =
+    nothing_found (find (tile_has_too_few main comps) (tiles_of main (with_shares b (main_packed siz main) res.parts) tiles))
     (sym (ap (λ (s : Stream). entries_fault s.main (length s.siz.comps) s.tiles) shape) ∙ clear.entries) in
-    subst S (sym shape) (spells_made b siz main res w clear.body.each entries)
+    let packed : shares_fault b (main_packed siz main) res.parts ≡ None = ap (λ (x : List PackedSegment). shares_fault b x res.parts) (sym own) ∙ clear.body.packed in
+    subst S (sym shape) (spells_made b siz main res w clear.body.each packed entries)
 
 pub whole_spelled : (b : List ℕ) → AreBytes b → first_fault b ≡ None → Spells b (stream_in b)
 whole_spelled b are h = clear_spelled b are (file_is_clear b h)

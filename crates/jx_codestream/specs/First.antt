@@ -20,7 +20,9 @@ use Rattle.jx_codestream.specs.declared.headers.Header.{Header}
 use Rattle.jx_codestream.specs.declared.parts.PlacedPart.{PlacedPart}
 use Rattle.jx_codestream.specs.declared.Stream.{Stream}
 use Rattle.jx_codestream.specs.Faults.{broken, rule_at}
-use Rattle.jx_codestream.specs.Headers.{cod_slot, header_at, header_fault, has_slot, qcd_slot}
+use Rattle.jx_codestream.specs.Headers.{cod_slot, header_at, header_fault, has_packed, has_slot, qcd_slot}
+use Rattle.jx_codestream.specs.declared.packed.PackedSegment.{PackedSegment}
+use Rattle.jx_codestream.specs.PackedHeaders.{packed_from, shares_fault, with_shares}
 use Rattle.jx_codestream.specs.Parts.{marker_at, parts_of, Parts, parts_from, parts_fault}
 use Rattle.jx_codestream.specs.Tiles.{tiles_of}
 use Rattle.jx_codestream.specs.Params.{entries_fault, planes_fault}
@@ -61,25 +63,31 @@ main_fault comps b start =
 
 -- the tile-parts after the main header
 abbrev pub parts_after : ℕ → ℕ → List ℕ → ℕ → Parts
-parts_after comps tiles b start = parts_from comps tiles b (main_header comps b start).end
+parts_after comps tiles b start = parts_from (has_packed (main_header comps b start).segments) comps tiles b (main_header comps b start).end
+
+-- the PPM of the main header
+abbrev pub packed_after : ℕ → List ℕ → ℕ → List PackedSegment
+packed_after comps b start = packed_from comps start (main_header comps b start).segments
 
 -- rule 24: a tile without a tile-part
 abbrev pub lacks_part : List PlacedPart → ℕ → Bool
 lacks_part parts tiles = list_any (λ (tile : ℕ). length (parts_of tile parts) == 0) (range_with_len 0 tiles)
 
--- what is violated up to EOC, and there: rule 24
+-- what is violated up to EOC, and there: rule 24, then rule 37
 unfoldable pub body_fault : ℕ → ℕ → List ℕ → ℕ → Option StreamFault
 body_fault comps tiles b start =
     option_or (main_fault comps b start)
-    (option_or (parts_fault comps tiles b (main_header comps b start).end)
-    (broken NO_PART (parts_after comps tiles b start).end (lacks_part (parts_after comps tiles b start).parts tiles)))
+    (option_or (parts_fault (has_packed (main_header comps b start).segments) comps tiles b (main_header comps b start).end)
+    (option_or (broken NO_PART (parts_after comps tiles b start).end (lacks_part (parts_after comps tiles b start).parts tiles))
+    (shares_fault b (packed_after comps b start) (parts_after comps tiles b start).parts)))
 
 -- the stream of this SIZ whose main header goes on at a place
 unfoldable pub stream_from : Siz → List ℕ → ℕ → Stream
 stream_from siz b start = record {
   siz = siz;
   main = (main_header (length siz.comps) b start).segments;
-  tiles = tiles_of (main_header (length siz.comps) b start).segments (parts_after (length siz.comps) (tile_number siz) b start).parts (tile_number siz);
+  tiles = tiles_of (main_header (length siz.comps) b start).segments
+      (with_shares b (packed_after (length siz.comps) b start) (parts_after (length siz.comps) (tile_number siz) b start).parts) (tile_number siz);
 }
 
 -- what is violated or passed by the tiles of a stream: rule 9 for too few entries, then limit 4

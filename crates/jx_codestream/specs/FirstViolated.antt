@@ -1,7 +1,7 @@
 -- The first rule that a file violates or limit that it passes (T.800, Annex A), as a relation on the whole file: the file
 -- begins with a front that is spelled and violates nothing, and where this front ends the first of that place's tests that
 -- is true is this one. A place is the number of bytes in front of it.
-use Rattle.std.specs.Prelude.{◌≡◌, ◌<◌, ℕ, ◌+◌, false, List, [], ◌∷◌, ◌++◌, length, Option, None, Some, ◌⊎◌}
+use Rattle.std.specs.Prelude.{◌≡◌, ◌<◌, ℕ, ◌+◌, Bool, false, List, [], ◌∷◌, ◌++◌, length, Option, None, Some, ◌⊎◌}
 use Rattle.std.specs.List.{flat_map}
 use Rattle.jx_marker.specs.declared.Segment.{Segment}
 use Rattle.jx_marker.specs.declared.Segment.TheVariants as segment
@@ -15,12 +15,13 @@ use Rattle.jx_codestream.specs.declared.headers.HeaderKind.TheVariants.{Main}
 use Rattle.jx_codestream.specs.declared.parts.PlacedPart.{PlacedPart}
 use Rattle.jx_codestream.specs.declared.Stream.{Stream}
 use Rattle.jx_codestream.specs.Faults.{broken}
-use Rattle.jx_codestream.specs.Headers.{segment_fault}
+use Rattle.jx_codestream.specs.Headers.{has_packed, segment_fault}
+use Rattle.jx_codestream.specs.PackedHeaders.{shares_fault, with_shares}
 use Rattle.jx_codestream.specs.Parts.{kind_of, comes_out_of_turn, start_fault, sot_fault, sod_fault}
 use Rattle.jx_codestream.specs.Tiles.{tiles_of}
 use Rattle.jx_codestream.specs.Params.{entries_fault, planes_fault}
 use Rattle.jx_codestream.specs.First.{tile_number, front_fault, tiles_fault, lacks_default, lacks_part}
-use Rattle.jx_codestream.specs.Spells.{TilePart, all_bytes, part_bytes, file_bytes, part_of, placed, AreSegments, IsTilePart, AreTileParts, first_sot, Spells}
+use Rattle.jx_codestream.specs.Spells.{TilePart, all_bytes, part_bytes, file_bytes, part_of, placed, AreSegments, IsTilePart, AreTileParts, first_sot, main_packed, Spells}
 
 -- the bytes begin with this front
 pub record Begins (b front : List ℕ) : Type 0 where
@@ -51,17 +52,17 @@ pub record IsMain (siz : Siz) (main : List Segment) : Type 0 where
   pub segments : AreSegments Main (length siz.comps) [] main
 
 -- tile-parts from a place on, after others; each names its length, since after Psot 0 nothing but EOC stands
-abbrev pub AreNamed : ℕ → ℕ → List PlacedPart → ℕ → List TilePart → Type 0
-AreNamed comps tiles before at [] = Unit {0}
-AreNamed comps tiles before at (p ∷ ps) = IsTilePart comps tiles before p × (p.sot.psot ≡ length (part_bytes comps p))
-    × AreNamed comps tiles (before ++ part_of comps at p ∷ []) (at + length (part_bytes comps p)) ps
+abbrev pub AreNamed : Bool → ℕ → ℕ → List PlacedPart → ℕ → List TilePart → Type 0
+AreNamed packed comps tiles before at [] = Unit {0}
+AreNamed packed comps tiles before at (p ∷ ps) = IsTilePart packed comps tiles before p × (p.sot.psot ≡ length (part_bytes comps p))
+    × AreNamed packed comps tiles (before ++ part_of comps at p ∷ []) (at + length (part_bytes comps p)) ps
 
 -- a main header and tile-parts, by which nothing is violated
 pub record AreParts (siz : Siz) (main : List Segment) (parts : List TilePart) : Type 0 where
   pub front : IsMain siz main
   -- rule 17
   pub defaults : lacks_default main ≡ false
-  pub each : AreNamed (length siz.comps) (tile_number siz) [] (first_sot siz main) parts
+  pub each : AreNamed (has_packed main) (length siz.comps) (tile_number siz) [] (first_sot siz main) parts
 
 -- the first of the rules 20 to 22 that a SOT violates after a main header and tile-parts
 abbrev pub sot_first : List ℕ → Siz → List Segment → List TilePart → Sot → Option StreamFault
@@ -73,7 +74,7 @@ pub record IsHeader (b : List ℕ) (siz : Siz) (main : List Segment) (parts : Li
   pub front : AreParts siz main parts
   pub range : SotInRange sot
   pub clear : sot_first b siz main parts sot ≡ None
-  pub segments : AreSegments (kind_of sot) (length siz.comps) [] before
+  pub segments : AreSegments (kind_of (has_packed main) sot) (length siz.comps) [] before
 
 -- a whole file up to EOC, in which nothing is violated before EOC; `rest` follows EOC
 pub record IsWhole (b : List ℕ) (siz : Siz) (main : List Segment) (parts : List TilePart) (rest : List ℕ) : Type 0 where
@@ -81,7 +82,7 @@ pub record IsWhole (b : List ℕ) (siz : Siz) (main : List Segment) (parts : Lis
   pub front : IsMain siz main
   pub defaults : lacks_default main ≡ false
   pub some : 0 < length parts
-  pub each : AreTileParts (length siz.comps) (tile_number siz) rest [] (first_sot siz main) parts
+  pub each : AreTileParts (has_packed main) (length siz.comps) (tile_number siz) rest [] (first_sot siz main) parts
 
 -- limit 3
 pub record IsInSiz (b : List ℕ) (f : StreamFault) : Type 0 where
@@ -90,7 +91,7 @@ pub record IsInSiz (b : List ℕ) (f : StreamFault) : Type 0 where
   pub begins : Begins b (main_bytes siz [])
   pub first : tiles_fault siz ≡ Some f
 
--- rules 1 to 14, 19 and 18, at a segment of the main header
+-- rules 1 to 13, 19 and 18, at a segment of the main header
 pub record IsInMain (b : List ℕ) (f : StreamFault) : Type 0 where
   pub siz : Siz
   pub before : List Segment
@@ -108,7 +109,7 @@ pub record IsAtFirstSot (b : List ℕ) (f : StreamFault) : Type 0 where
   pub begins : Begins b (sot_bytes siz main [] sot)
   pub first : broken NO_DEFAULTS (length (main_bytes siz main)) (lacks_default main) ≡ Some f
 
--- rule 23, then the rules 1 to 14 of SOT, where another tile-part is due
+-- rule 23, then the rules 1 to 13 of SOT, where another tile-part is due
 pub record IsAtPart (b : List ℕ) (f : StreamFault) : Type 0 where
   pub siz : Siz
   pub main : List Segment
@@ -139,7 +140,7 @@ pub record IsInHeader (b : List ℕ) (f : StreamFault) : Type 0 where
   pub before : List Segment
   pub front : IsHeader b siz main parts sot before
   pub begins : Begins b (header_bytes siz main parts sot before)
-  pub first : segment_fault (kind_of sot) (length siz.comps) b before (length (header_bytes siz main parts sot before)) ≡ Some f
+  pub first : segment_fault (kind_of (has_packed main) sot) (length siz.comps) b before (length (header_bytes siz main parts sot before)) ≡ Some f
 
 -- rule 22, or 23 where Psot is 0, at SOD
 pub record IsAtSod (b : List ℕ) (f : StreamFault) : Type 0 where
@@ -161,6 +162,17 @@ pub record IsAtEoc (b : List ℕ) (f : StreamFault) : Type 0 where
   pub whole : IsWhole b siz main parts rest
   pub first : broken NO_PART (length (front_bytes siz main parts)) (lacks_part (placed (length siz.comps) (first_sot siz main) parts) (tile_number siz)) ≡ Some f
 
+-- rule 37, after EOC
+pub record IsUnshared (b : List ℕ) (f : StreamFault) : Type 0 where
+  pub siz : Siz
+  pub main : List Segment
+  pub parts : List TilePart
+  pub rest : List ℕ
+  pub whole : IsWhole b siz main parts rest
+  -- rule 24
+  pub each : lacks_part (placed (length siz.comps) (first_sot siz main) parts) (tile_number siz) ≡ false
+  pub first : shares_fault b (main_packed siz main) (placed (length siz.comps) (first_sot siz main) parts) ≡ Some f
+
 -- rule 9 for too few entries, after EOC
 pub record IsShort (b : List ℕ) (f : StreamFault) : Type 0 where
   pub siz : Siz
@@ -170,7 +182,10 @@ pub record IsShort (b : List ℕ) (f : StreamFault) : Type 0 where
   pub whole : IsWhole b siz main parts rest
   -- rule 24
   pub each : lacks_part (placed (length siz.comps) (first_sot siz main) parts) (tile_number siz) ≡ false
-  pub first : entries_fault main (length siz.comps) (tiles_of main (placed (length siz.comps) (first_sot siz main) parts) (tile_number siz)) ≡ Some f
+  -- rule 37
+  pub packed : shares_fault b (main_packed siz main) (placed (length siz.comps) (first_sot siz main) parts) ≡ None
+  pub first : entries_fault main (length siz.comps)
+      (tiles_of main (with_shares b (main_packed siz main) (placed (length siz.comps) (first_sot siz main) parts)) (tile_number siz)) ≡ Some f
 
 -- limit 4, where no rule is violated
 pub record IsOver (b : List ℕ) (f : StreamFault) : Type 0 where
@@ -193,5 +208,6 @@ IsFirst b f =
     ⊎ (IsInHeader b f
     ⊎ (IsAtSod b f
     ⊎ (IsAtEoc b f
+    ⊎ (IsUnshared b f
     ⊎ (IsShort b f
-    ⊎ IsOver b f)))))))))
+    ⊎ IsOver b f))))))))))

@@ -1,15 +1,15 @@
 -- Headers: segments one after another, up to the SOT or SOD that ends them (T.800, A.3).
-use Rattle.std.specs.Prelude.{◌≡◌, ◌<◌, ◌≤◌, ℕ, zero, suc, ◌+◌, ◌*◌, ◌==◌, ◌&&◌, ◌||◌, not, nat_lt, Bool, true, false, List, [], ◌∷◌, ◌++◌, length, drop, Option, if◌then◌else◌, slice_index}
+use Rattle.std.specs.Prelude.{◌≡◌, ◌<◌, ◌≤◌, ℕ, zero, suc, ◌+◌, ◌*◌, ◌%◌, ◌==◌, ◌&&◌, ◌||◌, not, nat_lt, Bool, true, false, List, [], ◌∷◌, ◌++◌, length, drop, Option, if◌then◌else◌, slice_index}
 use Rattle.std.specs.List.{list_any}
 use Rattle.std.specs.Option.{option_or, is_some}
 use Rattle.jx_marker.specs.declared.Segment.{Segment}
 use Rattle.jx_marker.specs.declared.Segment.TheVariants as segment
 use Rattle.jx_marker.specs.Rules.{first_broken}
 use Rattle.jx_marker.specs.Segments.{segment_at, size_at}
-use Rattle.jx_marker.specs.RuleNumbers.{MISPLACED, TWICE}
+use Rattle.jx_marker.specs.RuleNumbers.{MISPLACED, PACKED_HEADERS, TWICE}
 use Rattle.jx_codestream.specs.declared.faults.StreamFault.{StreamFault}
 use Rattle.jx_codestream.specs.declared.headers.HeaderKind.{HeaderKind}
-use Rattle.jx_codestream.specs.declared.headers.HeaderKind.TheVariants.{Main, First, Later}
+use Rattle.jx_codestream.specs.declared.headers.HeaderKind.TheVariants.{Main, First, Later, PackedFirst, PackedLater}
 use Rattle.jx_codestream.specs.declared.headers.Header.{Header}
 use Rattle.jx_codestream.specs.Faults.{broken, rule_at}
 
@@ -24,6 +24,7 @@ abbrev pub stands_in_main : Segment → Bool
 stands_in_main segment.Soc = false
 stands_in_main (segment.Siz siz) = false
 stands_in_main (segment.Plt bytes) = false
+stands_in_main (segment.Ppt index bytes) = false
 stands_in_main segment.Sod = false
 stands_in_main segment.Eoc = false
 stands_in_main _ = true
@@ -32,6 +33,7 @@ stands_in_main _ = true
 abbrev pub stands_in_later : Segment → Bool
 stands_in_later (segment.Poc entries) = true
 stands_in_later (segment.Plt bytes) = true
+stands_in_later (segment.Ppt index bytes) = true
 stands_in_later (segment.Com bytes) = true
 stands_in_later (segment.Skipped code) = true
 stands_in_later segment.Sod = true
@@ -50,6 +52,32 @@ abbrev pub stands_in : HeaderKind → Segment → Bool
 stands_in Main s = stands_in_main s
 stands_in First s = stands_in_first s || stands_in_later s
 stands_in Later s = stands_in_later s
+stands_in PackedFirst s = stands_in_first s || stands_in_later s
+stands_in PackedLater s = stands_in_later s
+
+-- a tile-part's header, where the main header has a PPM
+abbrev pub is_beside_ppm : HeaderKind → Bool
+is_beside_ppm PackedFirst = true
+is_beside_ppm PackedLater = true
+is_beside_ppm _ = false
+
+abbrev pub is_ppt : Segment → Bool
+is_ppt (segment.Ppt index bytes) = true
+is_ppt _ = false
+
+-- rule 14: a PPT, where the main header has a PPM (A.7.5)
+abbrev pub is_packed_twice : HeaderKind → Segment → Bool
+is_packed_twice kind s = is_beside_ppm kind && is_ppt s
+
+-- a PPM, or a PPT: the first stands in main headers alone, the second in those of tile-parts (rule 19)
+abbrev pub is_packed : Segment → Bool
+is_packed (segment.Ppm index bytes) = true
+is_packed (segment.Ppt index bytes) = true
+is_packed _ = false
+
+-- packet headers stand in this header
+abbrev pub has_packed : List Segment → Bool
+has_packed segments = list_any is_packed segments
 
 -- a number for each kind of segment, or kind and component, that a header has once at most (rule 18); 0 for the others
 abbrev pub other_slot : ℕ
@@ -67,20 +95,29 @@ poc_slot = 3
 abbrev pub crg_slot : ℕ
 crg_slot = 4
 
+-- of a PPM or a PPT by its index, a byte
+abbrev pub packed_slot : ℕ → ℕ
+packed_slot index = 5 + index % 256
+
+abbrev pub last_packed_slot : ℕ
+last_packed_slot = 260
+
 abbrev pub coc_slot : ℕ → ℕ
-coc_slot comp = 5 + 3 * comp
+coc_slot comp = 261 + 3 * comp
 
 abbrev pub qcc_slot : ℕ → ℕ
-qcc_slot comp = 6 + 3 * comp
+qcc_slot comp = 262 + 3 * comp
 
 abbrev pub rgn_slot : ℕ → ℕ
-rgn_slot comp = 7 + 3 * comp
+rgn_slot comp = 263 + 3 * comp
 
 abbrev pub slot_of : Segment → ℕ
 slot_of (segment.Cod cod) = cod_slot
 slot_of (segment.Qcd quant) = qcd_slot
 slot_of (segment.Poc entries) = poc_slot
 slot_of (segment.Crg bytes) = crg_slot
+slot_of (segment.Ppm index bytes) = packed_slot index
+slot_of (segment.Ppt index bytes) = packed_slot index
 slot_of (segment.Coc comp shape) = coc_slot comp
 slot_of (segment.Qcc comp quant) = qcc_slot comp
 slot_of (segment.Rgn comp shift) = rgn_slot comp
@@ -88,22 +125,24 @@ slot_of _ = other_slot
 
 -- how many such numbers there are
 abbrev pub slot_count : ℕ → ℕ
-slot_count comps = 5 + 3 * comps
+slot_count comps = 261 + 3 * comps
 
 -- a segment of this kind, or kind and component, is among these
 abbrev pub has_slot : ℕ → List Segment → Bool
 has_slot slot segments = list_any (λ (s : Segment). slot_of s == slot) segments
 
--- rule 18: a second COD, QCD, POC or CRG, or a second COC, QCC or RGN of one component
+-- rule 18: a second COD, QCD, POC or CRG, a second PPM or PPT of one index, or a second COC, QCC or RGN of one component
 abbrev pub is_second : List Segment → Segment → Bool
 is_second before s = nat_lt 0 (slot_of s) && has_slot (slot_of s) before
 
--- what is violated at a place of a header before rule 18 is tested
+-- what is violated at a place of a header before rule 18 is tested. Rule 14 may stand behind rule 12, since a PPT has no
+-- component
 unfoldable pub early_fault : HeaderKind → ℕ → List ℕ → ℕ → Option StreamFault
 early_fault kind comps b at = option_or (rule_at at (first_broken comps (drop at b)))
-    (broken MISPLACED at (not (stands_in kind (segment_at comps (drop at b)))))
+    (option_or (broken PACKED_HEADERS at (is_packed_twice kind (segment_at comps (drop at b))))
+    (broken MISPLACED at (not (stands_in kind (segment_at comps (drop at b))))))
 
--- what is violated at a place of a header that has these segments before it: rules 1 to 14, then rule 19, then rule 18
+-- what is violated at a place of a header that has these segments before it: rules 1 to 13, then 14, 19 and 18
 unfoldable pub segment_fault : HeaderKind → ℕ → List ℕ → List Segment → ℕ → Option StreamFault
 segment_fault kind comps b before at = option_or (early_fault kind comps b at)
     (broken TWICE at (is_second before (segment_at comps (drop at b))))

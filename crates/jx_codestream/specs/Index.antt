@@ -3,7 +3,7 @@ use Rattle.std.specs.Prelude.{◌≡◌, ◌<◌, ℕ, ◌-◌, ◌==◌, ◌||�
 use Rattle.std.specs.List.{slice_get, list_any}
 use Rattle.jx_marker.specs.declared.Segment.{Segment}
 use Rattle.jx_marker.specs.declared.Segment.TheVariants as segment
-use Rattle.jx_codestream.specs.Headers.{cod_slot, crg_slot, qcd_slot, slot_of}
+use Rattle.jx_codestream.specs.Headers.{cod_slot, last_packed_slot, qcd_slot, slot_of}
 use Rattle.jx_codestream.specs.Tiles.{in_slot}
 
 -- the segment before this number of places, or none for 0
@@ -21,7 +21,7 @@ held_or (Some held) others = held.items
 
 -- a slot of the segments that give parameters: COD, QCD, COC, QCC, RGN
 abbrev pub gives : ℕ → Bool
-gives slot = (slot == cod_slot) || ((slot == qcd_slot) || nat_lt crg_slot slot)
+gives slot = (slot == cod_slot) || ((slot == qcd_slot) || nat_lt last_packed_slot slot)
 
 -- some segment gives parameters
 abbrev pub has_giving : List Segment → Bool

@@ -1,5 +1,5 @@
 -- Tile-parts: SOT, a header that SOD ends, and data up to the place that Psot names (T.800, A.4.2 and A.4.3).
-use Rattle.std.specs.Prelude.{◌≡◌, ◌<◌, ℕ, zero, suc, ◌+◌, ◌-◌, ◌==◌, ◌&&◌, ◌||◌, not, nat_lt, nat_le, Bool, List, [], ◌∷◌, ◌++◌, length, drop, Option, None, if◌then◌else◌, slice_index}
+use Rattle.std.specs.Prelude.{◌≡◌, ◌<◌, ℕ, zero, suc, ◌+◌, ◌-◌, ◌==◌, ◌&&◌, ◌||◌, not, nat_lt, nat_le, Bool, true, false, List, [], ◌∷◌, ◌++◌, length, drop, Option, None, if◌then◌else◌, slice_index}
 use Rattle.std.specs.List.{list_any, filter}
 use Rattle.std.specs.Option.{option_or, is_some}
 use Rattle.jx_marker.specs.Codes.{SOT, EOC}
@@ -10,12 +10,13 @@ use Rattle.jx_marker.specs.Values.{sot_at}
 use Rattle.jx_marker.specs.RuleNumbers.{NO_TILE, PART_END, PART_LENGTH, PART_NUMBER}
 use Rattle.jx_codestream.specs.declared.faults.StreamFault.{StreamFault}
 use Rattle.jx_codestream.specs.declared.headers.HeaderKind.{HeaderKind}
-use Rattle.jx_codestream.specs.declared.headers.HeaderKind.TheVariants.{First, Later}
+use Rattle.jx_codestream.specs.declared.headers.HeaderKind.TheVariants.{First, Later, PackedFirst, PackedLater}
 use Rattle.jx_codestream.specs.declared.headers.Header.{Header}
 use Rattle.jx_codestream.specs.declared.parts.PlacedPart.{PlacedPart}
 use Rattle.jx_codestream.specs.declared.Body.{Body}
 use Rattle.jx_codestream.specs.Faults.{broken, rule_at}
 use Rattle.jx_codestream.specs.Headers.{header_at, header_fault}
+use Rattle.jx_codestream.specs.PackedHeaders.{heads_in}
 
 -- the marker of this second byte stands at a place
 abbrev pub marker_at : List ℕ → ℕ → ℕ → Bool
@@ -29,9 +30,10 @@ sot_in b at = sot_at (body_at (drop at b))
 abbrev pub after_sot : List ℕ → ℕ → ℕ
 after_sot b at = at + size_at (drop at b)
 
--- the first tile-part of a tile is that of number 0
-abbrev pub kind_of : Sot → HeaderKind
-kind_of sot = if sot.part == 0 then First else Later
+-- the first tile-part of a tile is that of number 0; the main header has a PPM or hasn't
+abbrev pub kind_of : Bool → Sot → HeaderKind
+kind_of false sot = if sot.part == 0 then First else Later
+kind_of true sot = if sot.part == 0 then PackedFirst else PackedLater
 
 -- the tile-parts of a tile
 abbrev pub parts_of : ℕ → List PlacedPart → List PlacedPart
@@ -78,41 +80,42 @@ abbrev pub end_of : List ℕ → ℕ → Sot → ℕ
 end_of b at sot = if sot.psot == 0 then length b - 2 else at + sot.psot
 
 -- the header of the tile-part at a place, and where it stops
-abbrev pub part_header : ℕ → List ℕ → ℕ → Header
-part_header comps b at = header_at (kind_of (sot_in b at)) comps b (after_sot b at)
+abbrev pub part_header : Bool → ℕ → List ℕ → ℕ → Header
+part_header packed comps b at = header_at (kind_of packed (sot_in b at)) comps b (after_sot b at)
 
 -- the data of a tile-part at this place, whose SOD stands at that one
 abbrev pub body_of : List ℕ → ℕ → Sot → ℕ → Body
 body_of b at sot sod = record { at = sod + 2; length = end_of b at sot - (sod + 2) }
 
 -- the tile-part at a place
-unfoldable pub part_at : ℕ → List ℕ → ℕ → PlacedPart
-part_at comps b at = record {
+unfoldable pub part_at : Bool → ℕ → List ℕ → ℕ → PlacedPart
+part_at packed comps b at = record {
   place = at;
   sot = sot_in b at;
-  header = (part_header comps b at).segments;
-  body = body_of b at (sot_in b at) (part_header comps b at).end;
+  header = (part_header packed comps b at).segments;
+  heads = heads_in comps (after_sot b at) (part_header packed comps b at).segments;
+  body = body_of b at (sot_in b at) (part_header packed comps b at).end;
 }
 
 -- what is violated first in the tile-part at a place, whose SOT is out of turn or isn't
-unfoldable pub part_fault : ℕ → ℕ → List ℕ → Bool → ℕ → Option StreamFault
-part_fault comps tiles b out at =
+unfoldable pub part_fault : Bool → ℕ → ℕ → List ℕ → Bool → ℕ → Option StreamFault
+part_fault packed comps tiles b out at =
     option_or (start_fault comps b at)
     (option_or (sot_fault tiles b at (sot_in b at) out)
-    (option_or (header_fault (kind_of (sot_in b at)) comps b (after_sot b at))
-    (sod_fault b at (sot_in b at) (part_header comps b at).end)))
+    (option_or (header_fault (kind_of packed (sot_in b at)) comps b (after_sot b at))
+    (sod_fault b at (sot_in b at) (part_header packed comps b at).end)))
 
 -- the same after these tile-parts
-abbrev pub fault_after : ℕ → ℕ → List ℕ → List PlacedPart → ℕ → Option StreamFault
-fault_after comps tiles b parts at = part_fault comps tiles b (comes_out_of_turn parts (sot_in b at)) at
+abbrev pub fault_after : Bool → ℕ → ℕ → List ℕ → List PlacedPart → ℕ → Option StreamFault
+fault_after packed comps tiles b parts at = part_fault packed comps tiles b (comes_out_of_turn parts (sot_in b at)) at
 
 -- the first byte after a tile-part
 abbrev pub end_of_part : PlacedPart → ℕ
 end_of_part p = p.body.at + p.body.length
 
 -- the tile-parts end at this place, with EOC or with a rule that is violated
-unfoldable pub parts_stop : ℕ → ℕ → List ℕ → List PlacedPart → ℕ → Bool
-parts_stop comps tiles b parts at = marker_at b at EOC || is_some (fault_after comps tiles b parts at)
+unfoldable pub parts_stop : Bool → ℕ → ℕ → List ℕ → List PlacedPart → ℕ → Bool
+parts_stop packed comps tiles b parts at = marker_at b at EOC || is_some (fault_after packed comps tiles b parts at)
 
 -- tile-parts, and the place after them
 pub record Parts : Type 0 where
@@ -120,21 +123,21 @@ pub record Parts : Type 0 where
   pub end : ℕ
 
 -- these tile-parts and those that stand after them one after another, n at most, up to a place where they stop
-unfoldable pub longest_parts : ℕ → ℕ → List ℕ → ℕ → List PlacedPart → ℕ → Parts
-longest_parts comps tiles b zero before at = record { parts = before; end = at }
-longest_parts comps tiles b (suc n) before at =
-    if parts_stop comps tiles b before at then record { parts = before; end = at }
-    else longest_parts comps tiles b n (before ++ part_at comps b at ∷ []) (end_of_part (part_at comps b at))
+unfoldable pub longest_parts : Bool → ℕ → ℕ → List ℕ → ℕ → List PlacedPart → ℕ → Parts
+longest_parts packed comps tiles b zero before at = record { parts = before; end = at }
+longest_parts packed comps tiles b (suc n) before at =
+    if parts_stop packed comps tiles b before at then record { parts = before; end = at }
+    else longest_parts packed comps tiles b n (before ++ part_at packed comps b at ∷ []) (end_of_part (part_at packed comps b at))
 
 -- the tile-parts from a place on
-abbrev pub parts_from : ℕ → ℕ → List ℕ → ℕ → Parts
-parts_from comps tiles b at = longest_parts comps tiles b (length b) [] at
+abbrev pub parts_from : Bool → ℕ → ℕ → List ℕ → ℕ → Parts
+parts_from packed comps tiles b at = longest_parts packed comps tiles b (length b) [] at
 
 -- what is violated where the tile-parts from a place on stop
-abbrev pub parts_fault : ℕ → ℕ → List ℕ → ℕ → Option StreamFault
-parts_fault comps tiles b at =
-    if marker_at b (parts_from comps tiles b at).end EOC then None
-    else fault_after comps tiles b (parts_from comps tiles b at).parts (parts_from comps tiles b at).end
+abbrev pub parts_fault : Bool → ℕ → ℕ → List ℕ → ℕ → Option StreamFault
+parts_fault packed comps tiles b at =
+    if marker_at b (parts_from packed comps tiles b at).end EOC then None
+    else fault_after packed comps tiles b (parts_from packed comps tiles b at).parts (parts_from packed comps tiles b at).end
 
 -- tables by tiles: how many tile-parts each had, and a TNsot that it told, or 0
 pub record Tracks (parts : List PlacedPart) (counts told : List ℕ) : Type 0 where

@@ -1,5 +1,5 @@
 -- The tiles of a stream as geometry (T.800, A.5, A.6 and B.3).
-use Rattle.std.specs.Prelude.{◌≡◌, ◌<◌, ℕ, false, List, [], length, map, slice_index_or}
+use Rattle.std.specs.Prelude.{◌≡◌, ◌<◌, ℕ, false, None, List, [], length, map, slice_index_or}
 use Rattle.std.specs.List.{range_with_len}
 use Rattle.jx_marker.specs.declared.CompSize.{CompSize}
 use Rattle.jx_marker.specs.declared.Segment.{Segment}
@@ -75,7 +75,7 @@ style_of s t c = style_in (headers_at s t) c
 
 -- a tile that isn't there
 abbrev pub no_tile : Tile
-no_tile = record { place = 0; header = []; notes = []; progressions = []; bodies = [] }
+no_tile = record { place = 0; header = []; notes = []; progressions = []; heads = None; bodies = [] }
 
 abbrev pub tile_at : Stream → ℕ → Tile
 tile_at s t = slice_index_or s.tiles t no_tile

@@ -1,5 +1,5 @@
 -- Which stream the bytes of a file spell (T.800, A.2 to A.4): SOC, SIZ, the main header's segments, the tile-parts, EOC.
-use Rattle.std.specs.Prelude.{◌≡◌, ◌<◌, ℕ, ◌+◌, true, false, List, [], ◌∷◌, ◌++◌, length, None, find, ◌⊎◌}
+use Rattle.std.specs.Prelude.{◌≡◌, ◌<◌, ℕ, ◌+◌, Bool, true, false, List, [], ◌∷◌, ◌++◌, length, None, find, ◌⊎◌}
 use Rattle.std.specs.List.{flat_map}
 use Rattle.jx_marker.specs.declared.Segment.{Segment}
 use Rattle.jx_marker.specs.declared.Segment.TheVariants as segment
@@ -11,7 +11,9 @@ use Rattle.jx_codestream.specs.declared.headers.HeaderKind.{HeaderKind}
 use Rattle.jx_codestream.specs.declared.headers.HeaderKind.TheVariants.{Main}
 use Rattle.jx_codestream.specs.declared.parts.PlacedPart.{PlacedPart}
 use Rattle.jx_codestream.specs.declared.Stream.{Stream}
-use Rattle.jx_codestream.specs.Headers.{stands_in, ends_header, is_second}
+use Rattle.jx_codestream.specs.Headers.{stands_in, ends_header, is_second, is_packed_twice, has_packed}
+use Rattle.jx_codestream.specs.declared.packed.PackedSegment.{PackedSegment}
+use Rattle.jx_codestream.specs.PackedHeaders.{heads_in, packed_from, shares_fault, with_shares}
 use Rattle.jx_codestream.specs.Parts.{kind_of, comes_out_of_turn}
 use Rattle.jx_codestream.specs.Tiles.{tiles_of}
 use Rattle.jx_codestream.specs.Params.{tile_has_too_few}
@@ -46,6 +48,7 @@ part_of comps at p = record {
   place = at;
   sot = p.sot;
   header = p.header;
+  heads = heads_in comps (at + length (spelling comps (segment.Sot p.sot))) p.header;
   body = record { at = at + length (head_bytes comps p); length = length p.body };
 }
 
@@ -56,10 +59,12 @@ placed comps at (p ∷ ps) = part_of comps at p ∷ placed comps (at + length (p
 
 -- a segment in a header that has these before it
 pub record IsSegment (kind : HeaderKind) (comps : ℕ) (before : List Segment) (s : Segment) : Type 0 where
-  -- rules 1 to 14
+  -- rules 1 to 13
   pub range : InRange comps s
   -- rule 19
   pub stands : stands_in kind s ≡ true
+  -- rule 14
+  pub once_packed : is_packed_twice kind s ≡ false
   pub inside : ends_header s ≡ false
   -- rule 18
   pub once : is_second before s ≡ false
@@ -73,26 +78,34 @@ AreSegments kind comps before (s ∷ ss) = IsSegment kind comps before s × AreS
 abbrev pub HasLength : ℕ → TilePart → List TilePart → List ℕ → Type 0
 HasLength comps p later rest = (p.sot.psot ≡ length (part_bytes comps p)) ⊎ ((p.sot.psot ≡ 0) × (later ≡ []) × (rest ≡ []))
 
--- a tile-part after others
-pub record IsTilePart (comps tiles : ℕ) (before : List PlacedPart) (p : TilePart) : Type 0 where
+-- a tile-part after others, behind a main header that has a PPM or hasn't
+pub record IsTilePart (packed : Bool) (comps tiles : ℕ) (before : List PlacedPart) (p : TilePart) : Type 0 where
   pub range : SotInRange p.sot
-  pub header : AreSegments (kind_of p.sot) comps [] p.header
+  pub header : AreSegments (kind_of packed p.sot) comps [] p.header
   -- rule 20
   pub tile : p.sot.tile < tiles
   -- rule 21
   pub turn : comes_out_of_turn before p.sot ≡ false
 
 -- tile-parts from a place on, after others
-abbrev pub AreTileParts : ℕ → ℕ → List ℕ → List PlacedPart → ℕ → List TilePart → Type 0
-AreTileParts comps tiles rest before at [] = Unit {0}
-AreTileParts comps tiles rest before at (p ∷ ps) = IsTilePart comps tiles before p × HasLength comps p ps rest
-    × AreTileParts comps tiles rest (before ++ part_of comps at p ∷ []) (at + length (part_bytes comps p)) ps
+abbrev pub AreTileParts : Bool → ℕ → ℕ → List ℕ → List PlacedPart → ℕ → List TilePart → Type 0
+AreTileParts packed comps tiles rest before at [] = Unit {0}
+AreTileParts packed comps tiles rest before at (p ∷ ps) = IsTilePart packed comps tiles before p × HasLength comps p ps rest
+    × AreTileParts packed comps tiles rest (before ++ part_of comps at p ∷ []) (at + length (part_bytes comps p)) ps
+
+-- where the main header's segments after SIZ begin
+abbrev pub main_start : Siz → ℕ
+main_start siz = 2 + length (spelling 1 (segment.Siz siz))
+
+-- the PPM of a main header
+abbrev pub main_packed : Siz → List Segment → List PackedSegment
+main_packed siz main = packed_from (length siz.comps) (main_start siz) main
 
 -- where the first SOT stands
 abbrev pub first_sot : Siz → List Segment → ℕ
 first_sot siz main = 2 + length (spelling 1 (segment.Siz siz)) + length (all_bytes (length siz.comps) main)
 
--- the bytes spell the stream, and none of the rules 1 to 24 is violated
+-- the bytes spell the stream, and none of the rules 1 to 24 and 37 is violated
 pub record Spells (b : List ℕ) (s : Stream) : Type 0 where
   pub parts : List TilePart
   pub rest : List ℕ
@@ -104,9 +117,11 @@ pub record Spells (b : List ℕ) (s : Stream) : Type 0 where
   pub defaults : lacks_default s.main ≡ false
   -- the first SOT ends the main header
   pub some : 0 < length parts
-  pub tile_parts : AreTileParts (length s.siz.comps) (tile_number s.siz) rest [] (first_sot s.siz s.main) parts
+  pub tile_parts : AreTileParts (has_packed s.main) (length s.siz.comps) (tile_number s.siz) rest [] (first_sot s.siz s.main) parts
   -- rule 24
   pub each : lacks_part (placed (length s.siz.comps) (first_sot s.siz s.main) parts) (tile_number s.siz) ≡ false
-  pub tiles : s.tiles ≡ tiles_of s.main (placed (length s.siz.comps) (first_sot s.siz s.main) parts) (tile_number s.siz)
+  -- rule 37
+  pub packed : shares_fault b (main_packed s.siz s.main) (placed (length s.siz.comps) (first_sot s.siz s.main) parts) ≡ None
+  pub tiles : s.tiles ≡ tiles_of s.main (with_shares b (main_packed s.siz s.main) (placed (length s.siz.comps) (first_sot s.siz s.main) parts)) (tile_number s.siz)
   -- rule 9
   pub entries : find (tile_has_too_few s.main (length s.siz.comps)) s.tiles ≡ None

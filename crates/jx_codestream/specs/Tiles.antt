@@ -8,6 +8,7 @@ use Rattle.jx_codestream.specs.declared.parts.PlacedPart.{PlacedPart}
 use Rattle.jx_codestream.specs.declared.Tile.{Tile}
 use Rattle.jx_codestream.specs.declared.tiles.Draft.{Draft}
 use Rattle.jx_codestream.specs.Headers.{cod_slot, slot_of}
+use Rattle.jx_codestream.specs.PackedHeaders.{heads_of}
 use Rattle.jx_codestream.specs.Parts.{parts_of}
 use Rattle.jx_marker.specs.declared.Segment.TheVariants as segment
 
@@ -65,6 +66,7 @@ tile_from main own = record {
   header = first_header own;
   notes = filter is_com (headers_of (drop 1 own));
   progressions = progressions_of main own;
+  heads = heads_of own;
   bodies = map (λ (p : PlacedPart). p.body) own;
 }
 
@@ -82,4 +84,5 @@ pub record Collects (own : List PlacedPart) (draft : Draft) : Type 0 where
   pub header : draft.header.items ≡ first_header own
   pub notes : draft.notes.items ≡ filter is_com (headers_of (drop 1 own))
   pub entries : draft.entries.items ≡ entries_joined (headers_of own)
+  pub heads : draft.heads ≡ heads_of own
   pub bodies : draft.bodies.items ≡ map (λ (p : PlacedPart). p.body) own

@@ -10,7 +10,7 @@ use thiserror::Error;
 /// Why a codestream isn't read: its headers and tile-parts, or the packets in them.
 #[derive(Clone, Copy, Debug, PartialEq, Eq, Error)]
 pub enum StreamFault {
-    /// A rule is violated: its number, 1 to 31, and the place in the file.
+    /// A rule is violated: its number, 1 to 31 or 37, and the place in the file.
     #[error("rule {number} at {place}")]
     Rule { number: u8, place: u32 },
     /// A limit is passed: its number, 3 to 6, and what was counted.

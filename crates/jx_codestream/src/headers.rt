@@ -3,11 +3,13 @@
 ghost use Rattle.std.specs.Prelude.{◌≡◌, ◌≤◌, ◌<◌, ◌+◌, ◌*◌, ◌^◌, ◌==◌, ◌&&◌, length, drop, slice_index, slice_set, nat_lt, IfOk, OnOk, ℕ, if◌then◌else◌};
 ghost use Rattle.std.specs.Option.{option_or};
 ghost use Rattle.jx_marker.specs.Ranges.{InRange};
-ghost use Rattle.jx_marker.specs.Segments.{segment_at, size_at};
+ghost use Rattle.jx_marker.specs.Segments.{segment_at, size_at, spelling};
 ghost use Rattle.jx_codestream.specs.Faults.{Answers, fault_of};
-ghost use Rattle.jx_codestream.specs.Headers.{stands_in, ends_header, slot_of, slot_count, early_fault, header_at, header_fault, MarksSlots};
+ghost use Rattle.jx_codestream.specs.Headers.{stands_in, ends_header, is_packed_twice, slot_of, slot_count, early_fault, header_at, header_fault, MarksSlots};
+ghost use Rattle.jx_codestream.specs.PackedHeaders.{PackedLieIn, packed_from};
 ghost use Rattle.jx_base.specs.Limits.{most_bytes};
 
+use crate::packed::{PackedSegment, push_packed};
 use crate::{Segments, StreamFault, slots};
 use jx_marker::{Rule, Segment, read_segment, rule_numbers};
 use std::alloc::Global;
@@ -21,6 +23,10 @@ pub enum HeaderKind {
     First,
     /// The header of a later tile-part.
     Later,
+    /// The header of a tile's first tile-part, where the main header has a PPM.
+    PackedFirst,
+    /// The header of a later tile-part, where the main header has a PPM.
+    PackedLater,
 }
 
 /// The segments of a header, and the place of the marker that ends it.
@@ -30,7 +36,7 @@ pub struct Header {
     pub end: usize,
 }
 
-/// The refusal of a rule, 1 to 31, that is violated at a place.
+/// The refusal of a rule, 1 to 31 or 37, that is violated at a place.
 pub fn violated(number: u8, place: usize) -> StreamFault
     requires { place < 2 ^ 32 }
     ensures { result ≡ StreamFault.Rule number place }
@@ -51,7 +57,8 @@ fn stands_in_main(segment: &Segment) -> bool
     ensures { result ≡ stands_in HeaderKind.Main segment.now }
 {
     match segment {
-        Segment::Soc | Segment::Siz(_) | Segment::Plt(_) | Segment::Sod | Segment::Eoc => false,
+        Segment::Soc | Segment::Siz(_) | Segment::Plt(_) | Segment::Ppt { .. } => false,
+        Segment::Sod | Segment::Eoc => false,
         _ => true,
     }
 }
@@ -71,6 +78,7 @@ fn stands_in_later(segment: &Segment) -> bool
 {
     match segment {
         Segment::Poc(_) | Segment::Plt(_) | Segment::Com(_) => true,
+        Segment::Ppt { .. } => true,
         Segment::Skipped(_) | Segment::Sod => true,
         _ => false,
     }
@@ -81,9 +89,17 @@ fn stands_in(kind: HeaderKind, segment: &Segment) -> bool
 {
     match kind {
         HeaderKind::Main => stands_in_main(segment),
-        HeaderKind::First => stands_in_first(segment),
-        HeaderKind::Later => stands_in_later(segment),
+        HeaderKind::First | HeaderKind::PackedFirst => stands_in_first(segment),
+        HeaderKind::Later | HeaderKind::PackedLater => stands_in_later(segment),
     }
+}
+
+/// Rule 14: a PPT, where the main header has a PPM.
+fn is_packed_twice(kind: HeaderKind, segment: &Segment) -> bool
+    ensures { result ≡ is_packed_twice kind segment.now }
+{
+    matches!(kind, HeaderKind::PackedFirst | HeaderKind::PackedLater)
+        && matches!(segment, Segment::Ppt { .. })
 }
 
 /// The number of a segment's kind, or of its kind and component, where a header has it once at most, else 0.
@@ -95,6 +111,7 @@ pub fn slot_of(segment: &Segment) -> usize
         Segment::Qcd(_) => slots::QCD,
         Segment::Poc(_) => slots::POC,
         Segment::Crg(_) => slots::CRG,
+        Segment::Ppm { index, .. } | Segment::Ppt { index, .. } => slots::packed(*index),
         Segment::Coc { comp, .. } => slots::coc(*comp),
         Segment::Qcc { comp, .. } => slots::qcc(*comp),
         Segment::Rgn { comp, .. } => slots::rgn(*comp),
@@ -125,10 +142,15 @@ pub fn segment_in(
     requires fits { length bytes.now ≤ most_bytes }
     ensures answer { Answers result (early_fault kind comps bytes.now at) (λ r. r.0 ≡ segment_at comps (drop at bytes.now)) }
     ensures after { IfOk result (λ r. (r.1 ≡ at + size_at (drop at bytes.now)) × (r.1 ≤ length bytes.now)) }
+    ensures size { IfOk result (λ r. r.1 ≡ at + length (spelling comps r.0)) }
     ensures range { IfOk result (λ r. InRange comps r.0) }
 {
     match read_segment(alloc, bytes, at, comps) {
         Ok((segment, next)) => {
+            if is_packed_twice(kind, &segment) {
+                drop(segment);
+                return Err(violated(rule_numbers::PACKED_HEADERS, at));
+            }
             if stands_in(kind, &segment) {
                 return Ok((segment, next));
             }
@@ -153,7 +175,7 @@ fn mark(slot: usize, start: u32, seen: &mut [u32]) -> bool
     found
 }
 
-/// The header from a place on. `seen` is a table by slots, for which no place of the file is too small.
+/// The header from a place on, and its PPM and PPT in their order. `seen` is a table by slots, for which no place of the file is too small.
 pub fn read_header(
     alloc: Global,
     bytes: &[u8],
@@ -161,31 +183,36 @@ pub fn read_header(
     kind: HeaderKind,
     comps: u16,
     seen: &mut [u32],
-) -> Result<Header, StreamFault>
+) -> Result<(Header, Vec<PackedSegment>), StreamFault>
     requires place { at ≤ length bytes.now }
     requires fits { length bytes.now ≤ most_bytes }
     requires slots { length seen.old ≡ slot_count comps }
     requires fresh { (slot : ℕ) → slice_index seen.old slot < at }
-    ensures answer { Answers result (header_fault kind comps bytes.now at) (λ header. header ≡ header_at kind comps bytes.now at) }
-    ensures within { IfOk result (λ header. (at ≤ header.end) × (header.end + 2 ≤ length bytes.now)) }
-    ensures marks { IfOk result (λ header. MarksSlots at header.segments seen.new) }
+    ensures answer { Answers result (header_fault kind comps bytes.now at) (λ r. r.0 ≡ header_at kind comps bytes.now at) }
+    ensures within { IfOk result (λ r. (at ≤ r.0.end) × (r.0.end + 2 ≤ length bytes.now)) }
+    ensures marks { IfOk result (λ r. MarksSlots at r.0.segments seen.new) }
+    ensures packed { IfOk result (λ r. r.1.items ≡ packed_from comps at r.0.segments) }
+    ensures inside { IfOk result (λ r. PackedLieIn bytes.now r.1.items) }
 {
     let start = at as u32;
     let mut segments = Vec::new(alloc);
+    let mut packed = Vec::new(alloc);
     let mut place = at;
     'segments: loop {
         let (segment, next) = segment_in(alloc, bytes, place, kind, comps)?;
         if ends_header(&segment) {
             drop(segment);
-            return Ok(Header {
+            let header = Header {
                 segments: Segments::new(segments),
                 end: place,
-            });
+            };
+            return Ok((header, packed));
         }
         if mark(slot_of(&segment), start, seen) {
             drop(segment);
             return Err(violated(rule_numbers::TWICE, place));
         }
+        push_packed(place, &segment, comps, &mut packed)?;
         segments.push(segment)?;
         place = next;
     }

@@ -101,7 +101,7 @@ fn found_by<'a>(table: &[usize], segments: &'a [Segment], slot: usize) -> Option
 fn gives(slot: usize) -> bool
     ensures { result ≡ gives slot }
 {
-    slot == slots::COD || slot == slots::QCD || slot > slots::CRG
+    slot == slots::COD || slot == slots::QCD || slot > slots::LAST_PACKED
 }
 
 /// The component of which a segment gives parameters.

@@ -1,6 +1,6 @@
 //! Laws over the definitions of a codestream. The functions do nothing: their contracts carry the laws.
 
-ghost use Rattle.std.specs.Prelude.{◌≡◌, ◌≤◌, ◌<◌, ◌+◌, ◌*◌, ◌⊎◌, ℕ, List, None, Some, length, true};
+ghost use Rattle.std.specs.Prelude.{◌≡◌, ◌≤◌, ◌<◌, ◌+◌, ◌*◌, ◌%◌, ◌⊎◌, ℕ, List, None, Some, length, true};
 ghost use Rattle.std.specs.List.{range_with_len};
 ghost use Rattle.std.specs.Option.{option_or};
 ghost use Rattle.jx_marker.specs.Ranges.{AreBytes};
@@ -19,8 +19,8 @@ ghost use Rattle.jx_geom.specs.declared.shape.CompShape.{CompShape};
 ghost use Rattle.jx_geom.specs.Ranges.{CanvasInRange, HasBand};
 ghost use Rattle.jx_geom.specs.Rects.{band_level};
 ghost use Rattle.jx_base.specs.declared.names.Band.{Band};
-ghost use Rattle.jx_codestream.specs.Headers.{coc_slot, cod_slot, crg_slot, poc_slot, qcc_slot, qcd_slot, rgn_slot, slot_of};
-ghost use Rattle.jx_codestream.specs.Kinds.{IsCoc, IsCod, IsCrg, IsPoc, IsQcc, IsQcd, IsRgn};
+ghost use Rattle.jx_codestream.specs.Headers.{coc_slot, cod_slot, crg_slot, packed_slot, poc_slot, qcc_slot, qcd_slot, rgn_slot, slot_of};
+ghost use Rattle.jx_codestream.specs.Kinds.{IsCoc, IsCod, IsCrg, IsPacked, IsPoc, IsQcc, IsQcd, IsRgn};
 ghost use Rattle.jx_codestream.specs.BandNumbers.{all_numbers};
 
 /// A file that violates no rule from 1 to 24 and passes none of the limits 3 and 4 spells the stream that is
@@ -81,6 +81,7 @@ pub fn slots_are_kinds()
     ensures qcd { (s : Segment) → (slot_of s ≡ qcd_slot → IsQcd s) × (IsQcd s → slot_of s ≡ qcd_slot) }
     ensures poc { (s : Segment) → (slot_of s ≡ poc_slot → IsPoc s) × (IsPoc s → slot_of s ≡ poc_slot) }
     ensures crg { (s : Segment) → (slot_of s ≡ crg_slot → IsCrg s) × (IsCrg s → slot_of s ≡ crg_slot) }
+    ensures packed { (s : Segment) (index : ℕ) → (slot_of s ≡ packed_slot index → (other : ℕ) × IsPacked other s × (other % 256 ≡ index % 256)) × (IsPacked index s → slot_of s ≡ packed_slot index) }
     ensures coc { (s : Segment) (comp : ℕ) → (slot_of s ≡ coc_slot comp → IsCoc comp s) × (IsCoc comp s → slot_of s ≡ coc_slot comp) }
     ensures qcc { (s : Segment) (comp : ℕ) → (slot_of s ≡ qcc_slot comp → IsQcc comp s) × (IsQcc comp s → slot_of s ≡ qcc_slot comp) }
     ensures rgn { (s : Segment) (comp : ℕ) → (slot_of s ≡ rgn_slot comp → IsRgn comp s) × (IsRgn comp s → slot_of s ≡ rgn_slot comp) }

@@ -8,11 +8,13 @@ mod headers;
 mod index;
 pub mod laws;
 mod lists;
+mod packed;
 mod parts;
 mod precedence;
 mod queries;
 mod reading;
 mod shapes;
+mod shares;
 mod slots;
 mod steps;
 mod tiles;
@@ -22,15 +24,16 @@ pub use faults::StreamFault;
 pub use headers::violated;
 use jx_base::Style;
 use jx_marker::Siz;
-pub use lists::{Bodies, Entries, Segments, Tiles};
+pub use lists::{Bodies, Entries, Heads, Segments, Tiles};
+pub use packed::joined_bytes;
 pub use reading::read_stream;
 pub use shapes::comps_of;
 pub use view::{MainView, TileView};
 
-/// The data of one tile-part: where it stands in the file.
+/// The data of one tile-part, or a piece of packet headers: where it stands in the file.
 #[derive(Clone, Copy, Debug, PartialEq, Eq)]
 pub struct Body {
-    /// The place of the first byte, the one after SOD.
+    /// The place of the first byte, of a tile-part's data the one after SOD.
     pub at: u32,
     /// How many bytes there are, also none.
     pub length: u32,
@@ -47,6 +50,8 @@ pub struct Tile {
     pub notes: Segments,
     /// The entries by which its packets are ordered.
     pub progressions: Entries,
+    /// Its packet headers, where they stand apart from its packets.
+    pub heads: Heads,
     /// The data of its tile-parts in their order.
     pub bodies: Bodies,
 }

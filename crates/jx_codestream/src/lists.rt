@@ -1,6 +1,7 @@
 //! Lists of segments and of tile data, which contracts see as lists.
 
-ghost use Rattle.std.specs.Prelude.{◌≡◌, IfOk};
+ghost use Rattle.jx_codestream.specs.PackedHeaders.{both_heads};
+ghost use Rattle.std.specs.Prelude.{◌≡◌, IfOk, OnOk, MatchOption, Some, None};
 
 use crate::{Body, Tile};
 use jx_marker::{Progression, Segment};
@@ -82,6 +83,77 @@ impl Bodies {
         ensures { result.items ≡ self }
     {
         let Bodies { items } = self;
+        items
+    }
+}
+
+/// A tile's packet headers that stand apart from its packets (T.800, A.7.4 and A.7.5): none, or pieces of the file, whose
+/// bytes, joined, they are. Contracts see an optional list, which may be empty.
+#[derive(Drop)]
+pub struct Heads {
+    items: Option<Vec<Body>>,
+}
+
+impl Model for Heads {
+    ghost use Rattle.std.specs.Prelude.{List, Option};
+    ghost use Rattle.jx_codestream.specs.declared.Body.{Body};
+    ghost use Rattle.jx_codestream.specs.Held.{held};
+
+    ghost Value = { Option (List Body) };
+
+    ghost view = { λ heads. held heads.items };
+}
+
+impl Heads {
+    /// None: each packet's header stands before its packet.
+    pub fn none() -> Self
+        ensures { result ≡ None }
+    {
+        Heads { items: None }
+    }
+
+    /// The packet headers in these pieces.
+    pub fn new(pieces: Vec<Body>) -> Self
+        ensures { result ≡ Some pieces.items }
+    {
+        Heads {
+            items: Some(pieces),
+        }
+    }
+
+    /// The pieces, where there are packet headers.
+    pub fn pieces(&self) -> Option<&[Body]>
+        ensures { MatchOption result (self.now ≡ None) (λ pieces. self.now ≡ Some pieces.now) }
+    {
+        match &self.items {
+            Some(pieces) => Some(pieces.as_slice()),
+            None => None,
+        }
+    }
+
+    /// Adds those of a later tile-part, where it has some.
+    pub fn add(&mut self, later: Heads) -> Result<(), AllocError>
+        ensures { OnOk result (self.new ≡ both_heads self.old later) }
+    {
+        let Some(more) = later.into_vec() else {
+            return Ok(());
+        };
+        match &mut self.items {
+            Some(pieces) => {
+                pieces.extend_from_slice(&more)?;
+            }
+            None => {
+                self.items = Some(more);
+            }
+        }
+        Ok(())
+    }
+
+    /// The pieces as the `Vec` that they came in.
+    pub fn into_vec(self) -> Option<Vec<Body>>
+        ensures { MatchOption result (self ≡ None) (λ pieces. self ≡ Some pieces.items) }
+    {
+        let Heads { items } = self;
         items
     }
 }

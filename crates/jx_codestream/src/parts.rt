@@ -9,11 +9,13 @@ ghost use Rattle.std.specs.List.{All};
 ghost use Rattle.jx_codestream.specs.declared.parts.PlacedPart.{PlacedPart};
 ghost use Rattle.jx_codestream.specs.Faults.{Answers};
 ghost use Rattle.jx_codestream.specs.Headers.{slot_count, MarksSlots};
+ghost use Rattle.jx_codestream.specs.PackedHeaders.{with_heads};
 ghost use Rattle.jx_codestream.specs.Parts.{marker_at, sot_in, after_sot, kind_of, start_fault, sot_fault, sod_fault, is_out_of_turn, has_wrong_length, end_of, part_at, part_fault, tables_say, parts_fault, parts_from, end_of_part, Tracks};
 ghost use Rattle.jx_base.specs.Limits.{most_bytes};
 
 use crate::headers::{HeaderKind, fault_of, read_header, violated};
-use crate::{Body, Segments, StreamFault};
+use crate::packed::heads_by;
+use crate::{Body, Heads, Segments, StreamFault};
 use jx_marker::codes::{EOC, SOT};
 use jx_marker::{Segment, Sot, read_segment, rule_numbers};
 use std::alloc::Global;
@@ -27,8 +29,19 @@ pub struct PlacedPart {
     pub sot: Sot,
     /// The segments of its header after SOT and before SOD.
     pub header: Segments,
+    /// Its packet headers, where they stand apart from its packets.
+    pub heads: Heads,
     /// Its data.
     pub body: Body,
+}
+
+impl PlacedPart {
+    /// From now on its packet headers stand in these pieces.
+    pub fn set_heads(&mut self, pieces: Vec<Body>)
+        ensures { self.new ≡ with_heads self.old pieces.items }
+    {
+        self.heads = Heads::new(pieces);
+    }
 }
 
 /// Whether the marker of this second byte, which isn't 0, stands at a place.
@@ -144,21 +157,24 @@ fn end_of(bytes: &[u8], at: usize, sot: Sot, sod: usize) -> Result<usize, Stream
     Ok(end)
 }
 
-fn kind_of(sot: Sot) -> HeaderKind
-    ensures { result ≡ kind_of sot }
+fn kind_of(packed: bool, sot: Sot) -> HeaderKind
+    ensures { result ≡ kind_of packed sot }
 {
-    if sot.part == 0 {
-        return HeaderKind::First;
+    match (packed, sot.part == 0) {
+        (false, true) => HeaderKind::First,
+        (false, false) => HeaderKind::Later,
+        (true, true) => HeaderKind::PackedFirst,
+        (true, false) => HeaderKind::PackedLater,
     }
-    HeaderKind::Later
 }
 
-/// The tile-part at a place where no EOC stands. `counts` and `told` are tables by tiles: how many tile-parts
+/// The tile-part at a place where no EOC stands; `packed` is whether the main header has a PPM. `counts` and `told` are tables by tiles: how many tile-parts
 /// each had, and a number of them that it told, or 0. `seen` is a table by slots.
 fn read_part(
     alloc: Global,
     bytes: &[u8],
     at: usize,
+    packed: bool,
     comps: u16,
     seen: &mut [u32],
     counts: &[u16],
@@ -170,21 +186,24 @@ fn read_part(
     requires slots { length seen.old ≡ slot_count comps }
     requires fresh { (slot : ℕ) → slice_index seen.old slot ≤ at }
     requires tables { length told.now ≡ length counts.now }
-    ensures answer { Answers result (part_fault comps (length counts.now) bytes.now (tables_say counts.now told.now (sot_in bytes.now at)) at)
-        (λ part. part ≡ part_at comps bytes.now at) }
+    ensures answer { Answers result (part_fault packed comps (length counts.now) bytes.now (tables_say counts.now told.now (sot_in bytes.now at)) at)
+        (λ part. part ≡ part_at packed comps bytes.now at) }
     ensures tile { IfOk result (λ part. part.sot.tile < length counts.now) }
     ensures within { IfOk result (λ part. (at < end_of_part part) × (end_of_part part ≤ length bytes.now)) }
     ensures fresh { IfOk result (λ part. (slot : ℕ) → slice_index seen.new slot ≤ end_of_part part) }
 {
     let (sot, next) = read_sot(alloc, bytes, at, comps)?;
     check_sot(bytes, at, sot, counts, told)?;
-    let header = read_header(alloc, bytes, next, kind_of(sot), comps, seen)?;
+    let kind = kind_of(packed, sot);
+    let (header, packed) = read_header(alloc, bytes, next, kind, comps, seen)?;
     let end = end_of(bytes, at, sot, header.end)?;
+    let heads = heads_by(alloc, &packed)?;
     let data = header.end + 2;
     Ok(PlacedPart {
         place: at as u32,
         sot,
         header: header.segments,
+        heads,
         body: Body {
             at: data as u32,
             length: (end - data) as u32,
@@ -212,11 +231,13 @@ fn end_of_part(part: &PlacedPart) -> usize
     part.body.at as usize + part.body.length as usize
 }
 
-/// The tile-parts from a place on, in their order, and the place of the EOC after them.
+/// The tile-parts from a place on, in their order, and the place of the EOC after them. `packed` is whether the main header
+/// has a PPM.
 pub fn read_parts(
     alloc: Global,
     bytes: &[u8],
     at: usize,
+    packed: bool,
     comps: u16,
     seen: &mut [u32],
     counts: &mut [u16],
@@ -228,8 +249,8 @@ pub fn read_parts(
     requires fresh { (slot : ℕ) → slice_index seen.old slot ≤ at }
     requires tables { length told.old ≡ length counts.old }
     requires tracks { Tracks [] counts.old told.old }
-    ensures answer { Answers result (parts_fault comps (length counts.old) bytes.now at)
-        (λ r. (r.0.items ≡ (parts_from comps (length counts.old) bytes.now at).parts) × (r.1 ≡ (parts_from comps (length counts.old) bytes.now at).end)) }
+    ensures answer { Answers result (parts_fault packed comps (length counts.old) bytes.now at)
+        (λ r. (r.0.items ≡ (parts_from packed comps (length counts.old) bytes.now at).parts) × (r.1 ≡ (parts_from packed comps (length counts.old) bytes.now at).end)) }
     ensures tracks { IfOk result (λ r. Tracks r.0.items counts.new told.new) }
     ensures tiles { IfOk result (λ r. All (λ (part : PlacedPart). part.sot.tile < length counts.old) r.0.items) }
     ensures end { IfOk result (λ r. r.1 ≤ length bytes.now) }
@@ -240,7 +261,7 @@ pub fn read_parts(
         if has_marker(bytes, place, EOC) {
             return Ok((parts, place));
         }
-        let part = read_part(alloc, bytes, place, comps, seen, counts, told)?;
+        let part = read_part(alloc, bytes, place, packed, comps, seen, counts, told)?;
         count_part(part.sot, counts, told);
         place = end_of_part(&part);
         parts.push(part)?;

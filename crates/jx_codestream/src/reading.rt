@@ -13,14 +13,16 @@ ghost use Rattle.jx_codestream.specs.Spells.{Spells};
 ghost use Rattle.jx_codestream.specs.Read.{IsRead};
 ghost use Rattle.jx_codestream.specs.FirstViolated.{IsFirst};
 ghost use Rattle.jx_codestream.specs.Headers.{cod_slot, qcd_slot, slot_count};
+ghost use Rattle.jx_codestream.specs.PackedHeaders.{PackedLieIn, with_shares};
 ghost use Rattle.jx_codestream.specs.Parts.{Tracks, end_of_part};
 ghost use Rattle.jx_codestream.specs.Params.{entries_fault, planes_fault};
-ghost use Rattle.jx_codestream.specs.First.{canvas_of, tile_number, siz_of, after_siz, front_fault, tiles_fault, lacks_default, main_header, main_fault, parts_after, lacks_part, body_fault, stream_from, stream_in, parameters_fault, later_fault, first_fault};
+ghost use Rattle.jx_codestream.specs.First.{canvas_of, tile_number, siz_of, after_siz, front_fault, tiles_fault, lacks_default, main_header, main_fault, packed_after, parts_after, lacks_part, body_fault, stream_from, stream_in, parameters_fault, later_fault, first_fault};
 ghost use Rattle.jx_base.specs.Limits.{most_bytes};
 
 use crate::checks::{check_entries, check_planes};
 use crate::headers::{Header, HeaderKind, fault_of, read_header, violated};
 use crate::index::Index;
+use crate::packed::{PackedSegment, with_shares};
 use crate::parts::{PlacedPart, has_marker, read_parts};
 use crate::shapes::comps_of;
 use crate::tiles::tiles_of;
@@ -99,27 +101,29 @@ fn has_defaults(start: usize, seen: &[u32]) -> bool
     seen[slots::COD] as usize == start && seen[slots::QCD] as usize == start
 }
 
-/// The main header, after which the first SOT stands.
+/// The main header, after which the first SOT stands, and its PPM.
 fn read_main(
     alloc: Global,
     bytes: &[u8],
     start: usize,
     comps: u16,
     seen: &mut [u32],
-) -> Result<Header, StreamFault>
+) -> Result<(Header, Vec<PackedSegment>), StreamFault>
     requires place { start ≤ length bytes.now }
     requires fits { length bytes.now ≤ most_bytes }
     requires slots { length seen.old ≡ slot_count comps }
     requires fresh { (slot : ℕ) → slice_index seen.old slot < start }
-    ensures answer { Answers result (main_fault comps bytes.now start) (λ main. main ≡ main_header comps bytes.now start) }
-    ensures within { IfOk result (λ main. (start ≤ main.end) × (main.end ≤ length bytes.now)) }
+    ensures answer { Answers result (main_fault comps bytes.now start) (λ r. r.0 ≡ main_header comps bytes.now start) }
+    ensures within { IfOk result (λ r. (start ≤ r.0.end) × (r.0.end ≤ length bytes.now)) }
+    ensures packed { IfOk result (λ r. r.1.items ≡ packed_after comps bytes.now start) }
+    ensures inside { IfOk result (λ r. PackedLieIn bytes.now r.1.items) }
     ensures marks { IfOk result (λ _. (slot : ℕ) → slice_index seen.new slot ≤ start) }
 {
-    let main = read_header(alloc, bytes, start, HeaderKind::Main, comps, seen)?;
+    let (main, packed) = read_header(alloc, bytes, start, HeaderKind::Main, comps, seen)?;
     if !has_defaults(start, seen) {
         return Err(violated(rule_numbers::NO_DEFAULTS, main.end));
     }
-    Ok(main)
+    Ok((main, packed))
 }
 
 /// Whether a tile had no tile-part.
@@ -129,7 +133,7 @@ fn lacks_part(counts: &[u16]) -> bool
     counts.iter().any(|count| *count == 0)
 }
 
-/// The main header and the tile-parts. The tables have 0 everywhere.
+/// The main header and the tile-parts with their packet headers. The tables have 0 everywhere.
 fn read_body(
     alloc: Global,
     bytes: &[u8],
@@ -148,15 +152,17 @@ fn read_body(
     requires counts { (tile : ℕ) → slice_index counts.old tile ≡ 0 }
     requires told { (tile : ℕ) → slice_index told.old tile ≡ 0 }
     ensures answer { Answers result (body_fault comps (length counts.old) bytes.now start)
-        (λ r. (r.0 ≡ main_header comps bytes.now start) × (r.1.items ≡ (parts_after comps (length counts.old) bytes.now start).parts)) }
+        (λ r. (r.0 ≡ main_header comps bytes.now start) × (r.1.items ≡ with_shares bytes.now (packed_after comps bytes.now start) (parts_after comps (length counts.old) bytes.now start).parts)) }
     ensures tiles { IfOk result (λ r. All (λ (part : PlacedPart). part.sot.tile < length counts.old) r.1.items) }
 {
-    let main = read_main(alloc, bytes, start, comps, seen)?;
-    let (parts, eoc) = read_parts(alloc, bytes, main.end, comps, seen, counts, told)?;
+    let (main, packed) = read_main(alloc, bytes, start, comps, seen)?;
+    let some = !packed.is_empty();
+    let (parts, eoc) = read_parts(alloc, bytes, main.end, some, comps, seen, counts, told)?;
     if lacks_part(counts) {
         return Err(violated(rule_numbers::NO_PART, eoc));
     }
-    Ok((main, parts))
+    let shared = with_shares(alloc, bytes, &packed, parts)?;
+    Ok((main, shared))
 }
 
 /// The main header and the tile-parts of a picture with so many components and tiles.
@@ -171,7 +177,7 @@ fn read_headers(
     requires some { 0 < start }
     requires fits { length bytes.now ≤ most_bytes }
     ensures answer { Answers result (body_fault comps count bytes.now start)
-        (λ r. (r.0 ≡ main_header comps bytes.now start) × (r.1.items ≡ (parts_after comps count bytes.now start).parts)) }
+        (λ r. (r.0 ≡ main_header comps bytes.now start) × (r.1.items ≡ with_shares bytes.now (packed_after comps bytes.now start) (parts_after comps count bytes.now start).parts)) }
     ensures tiles { IfOk result (λ r. All (λ (part : PlacedPart). part.sot.tile < count) r.1.items) }
 {
     let mut seen = vec![in alloc; 0u32; slots::count(comps)]?;
@@ -234,7 +240,7 @@ fn read_rest(alloc: Global, bytes: &[u8], siz: Siz, start: usize) -> Result<Stre
 
 /// The stream that a file of at most 2^32 - 1 bytes spells.
 ///
-/// `Rule` names the first of the rules 1 to 24 that the file violates, with its place; `Limit` the first of the
+/// `Rule` names the first of the rules 1 to 24 and 37 that the file violates, with its place; `Limit` the first of the
 /// limits 3 (tiles) and 4 (planes of a band) that it passes, with what was counted. First is what `IsFirst` says, a
 /// relation on the whole file: a front of it is spelled and violates nothing, and where this front ends the first test
 /// of that place that is true is this one. `NoMemory` may stand in place of either. What follows EOC isn't read.

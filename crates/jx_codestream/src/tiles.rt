@@ -13,7 +13,7 @@ ghost use Rattle.jx_codestream.specs.Parts.{parts_of};
 
 use crate::headers::slot_of;
 use crate::parts::PlacedPart;
-use crate::{Bodies, Body, Entries, Segments, Tile, slots};
+use crate::{Bodies, Body, Entries, Heads, Segments, Tile, slots};
 use jx_marker::{Progression, Segment};
 use std::alloc::{AllocError, Global};
 
@@ -24,6 +24,7 @@ pub struct Draft {
     pub header: Vec<Segment>,
     pub notes: Vec<Segment>,
     pub entries: Vec<Progression>,
+    pub heads: Heads,
     pub bodies: Vec<Body>,
 }
 
@@ -80,21 +81,25 @@ impl Draft {
             header: Vec::new(alloc),
             notes: Vec::new(alloc),
             entries: Vec::new(alloc),
+            heads: Heads::none(),
             bodies: Vec::new(alloc),
         }
     }
 
     /// Adds the tile's next tile-part.
+    #[tactic(auto, using(crate::proofs::SharesLemmas::heads_on))]
     fn add(&mut self, part: PlacedPart) -> Result<(), AllocError>
         ensures { OnOk result ((own : List PlacedPart) → Collects own self.old → Collects (own ++ part ∷ []) self.new) }
     {
         push_entries(part.header.as_slice(), &mut self.entries)?;
+        self.heads.add(part.heads)?;
         if self.bodies.is_empty() {
             self.place = part.place;
             self.header = part.header.into_vec();
-        } else {
-            push_notes(part.header.into_vec(), &mut self.notes)?;
+            self.bodies.push(part.body)?;
+            return Ok(());
         }
+        push_notes(part.header.into_vec(), &mut self.notes)?;
         self.bodies.push(part.body)?;
         Ok(())
     }
@@ -191,6 +196,7 @@ impl Draft {
             header,
             notes,
             entries,
+            heads,
             bodies,
         } = self;
         let progressions = progressions(alloc, &header, entries, main, default)?;
@@ -199,6 +205,7 @@ impl Draft {
             header: Segments::new(header),
             notes: Segments::new(notes),
             progressions,
+            heads,
             bodies: Bodies::new(bodies),
         })
     }

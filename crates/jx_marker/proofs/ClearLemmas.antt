@@ -1,5 +1,5 @@
 -- What the fields of a segment are that violates no rule.
-use Rattle.std.proofs.Common.{◌≡◌, ◌<◌, ◌≤◌, ◌+◌, ◌-◌, ◌*◌, ◌%◌, ◌^◌, ℕ, List, ◌∷◌, [], length, drop, arith, refl, Bool, true, false, ◌||◌, ◌==◌, None, slice_index, cond, leb}
+use Rattle.std.proofs.Common.{◌≡◌, ◌<◌, ◌≤◌, ◌+◌, ◌-◌, ◌*◌, ◌%◌, ◌^◌, ℕ, List, ◌∷◌, [], length, drop, arith, refl, Bool, true, false, ◌||◌, ◌==◌, None, slice_index, cond, leb, ltb}
 use Rattle.std.specs.List.{list_all, list_any}
 use Rattle.std.proofs.lemmas.Bool.Decides.{nat_tests}
 use Rattle.byteorder.specs.Endian.{big_from}
@@ -7,9 +7,9 @@ use Rattle.jx_base.specs.OrderNumbers.{IsOrderNumber}
 use Rattle.jx_marker.specs.Codes.{SIZ, COD, COC, TLM, PLM, PLT, QCD, QCC, RGN, POC, PPM, PPT, CRG, COM, SOT}
 use Rattle.jx_marker.specs.Markers.{has_length, index_size, entry_size, progression_size}
 use Rattle.jx_marker.specs.Values.{siz_at, poc_at, index_at}
-use Rattle.jx_marker.specs.RuleNumbers.{CAPABILITIES, CODING, COMPONENT, PRECINCTS, PROGRESSIONS, QUANTIZATION, REGION, SIZ_FIELDS, SIZ_LENGTH, STYLE}
-use Rattle.jx_marker.specs.Rules.{breaks_3, breaks_4, breaks_5, breaks_6, breaks_7, breaks_8, breaks_9, breaks_10, breaks_11, breaks_12, first_true, rules_inside, siz_fits, shape_fits, cod_fits, quant_fits, has_zero_exponent, progression_fits}
-use Rattle.jx_marker.proofs.RuleLemmas.{cleared, siz_rules, cod_rules, coc_rules, qcd_rules, qcc_rules, rgn_rules, poc_rules}
+use Rattle.jx_marker.specs.RuleNumbers.{CAPABILITIES, CODING, COMPONENT, LENGTH_LISTS, PRECINCTS, PROGRESSIONS, QUANTIZATION, REGION, SIZ_FIELDS, SIZ_LENGTH, STYLE}
+use Rattle.jx_marker.specs.Rules.{breaks_3, breaks_4, breaks_5, breaks_6, breaks_7, breaks_8, breaks_9, breaks_10, breaks_11, breaks_12, breaks_13, first_true, rules_inside, siz_fits, shape_fits, cod_fits, quant_fits, has_zero_exponent, progression_fits}
+use Rattle.jx_marker.proofs.RuleLemmas.{cleared, siz_rules, cod_rules, coc_rules, qcd_rules, qcc_rules, rgn_rules, poc_rules, plain_rules}
 use Rattle.std.proofs.lemmas.Bool.{or_parts, and_parts, not-false, leb-true, leb-false, ltb-true, eqb-true}
 
 last_holds : (x : Bool) → (x || false) ≡ true → x ≡ true
@@ -162,6 +162,23 @@ clear_poc comps body h =
     let eleventh = cleared PROGRESSIONS (breaks_11 comps POC body) [] (rw poc_rules at h) in
     let fields = and_parts _ _ (not-false _ eleventh.0) in
     record { whole = eqb-true _ _ fields.0; fits = fields.1 }
+
+not_short : (n : ℕ) → ltb (2 + n) 3 ≡ false → 1 ≤ n
+not_short n h = grind (arith, nat_tests)
+
+pub clear_ppm : (comps : ℕ) (body : List ℕ) → first_true (rules_inside comps PPM body) ≡ None → 1 ≤ length body
+unfolding breaks_13
+clear_ppm comps body h =
+    let all = rw (plain_rules comps PPM body (record { siz = refl; cod = refl; coc = refl; qcd = refl; qcc = refl; rgn = refl; poc = refl })) at h in
+    let long = or_parts (ltb (2 + length body) 3) false (cleared LENGTH_LISTS (breaks_13 PPM body) [] all).0 in
+    not_short (length body) long.0
+
+pub clear_ppt : (comps : ℕ) (body : List ℕ) → first_true (rules_inside comps PPT body) ≡ None → 1 ≤ length body
+unfolding breaks_13
+clear_ppt comps body h =
+    let all = rw (plain_rules comps PPT body (record { siz = refl; cod = refl; coc = refl; qcd = refl; qcc = refl; rgn = refl; poc = refl })) at h in
+    let long = or_parts (ltb (2 + length body) 3) false (cleared LENGTH_LISTS (breaks_13 PPT body) [] all).0 in
+    not_short (length body) long.0
 
 -- the only marker with a length that is left
 pub sot_left : (code : ℕ) → has_length code ≡ true → (code == SIZ) ≡ false → (code == COD) ≡ false → (code == COC) ≡ false → (code == TLM) ≡ false → (code == PLM) ≡ false

@@ -6,12 +6,12 @@ use Rattle.std.specs.List.{AllByRecursion, flat_map}
 use Rattle.std.proofs.lemmas.Bool.{and_right}
 use Rattle.byteorder.specs.Endian.{big_from}
 use Rattle.byteorder.specs.Numbers.{big_from-cons, big_number-reads_back}
-use Rattle.jx_marker.specs.Codes.{PPM, PPT, SOT}
+use Rattle.jx_marker.specs.Codes.{SOT}
 use Rattle.jx_marker.specs.declared.Segment.{Segment}
 use Rattle.jx_marker.specs.Markers.{has_length}
 use Rattle.jx_marker.specs.Values.{values_from}
 use Rattle.jx_marker.specs.Segments.{with_length, length_at, body_at, value_of}
-use Rattle.jx_marker.specs.Rules.{breaks_1, breaks_2, breaks_14, least_length, first_true, rules_inside}
+use Rattle.jx_marker.specs.Rules.{breaks_1, breaks_2, least_length, first_true, rules_inside}
 use Rattle.jx_marker.specs.Ranges.{FitsLength}
 use Rattle.jx_marker.specs.Laws.{StandsAt}
 use Rattle.jx_marker.proofs.RuleLemmas.{clear_broken}
@@ -52,8 +52,6 @@ front_body code body rest fits =
 -- what rule 1 asks of a whole segment
 pub record IsWhole (comps code : ℕ) (body : List ℕ) : Type 0 where
   pub follows : has_length code ≡ true
-  pub not_ppm : (code == PPM) ≡ false
-  pub not_ppt : (code == PPT) ≡ false
   pub fits : FitsLength body
   pub least : least_length comps code ≤ 2 + length body
   pub sot : ((code == SOT) && not (2 + length body == 10)) ≡ false
@@ -62,10 +60,6 @@ pub record IsWhole (comps code : ℕ) (body : List ℕ) : Type 0 where
 front_marker : (code : ℕ) (tail : List ℕ) → has_length code ≡ true → breaks_2 (255 ∷ code ∷ tail) ≡ false
 unfolding breaks_2
 front_marker code tail follows = rw follows (grind (arith, nat_tests))
-
-front_packed : (code : ℕ) (tail : List ℕ) → (code == PPM) ≡ false → (code == PPT) ≡ false → breaks_14 (255 ∷ code ∷ tail) ≡ false
-unfolding breaks_14
-front_packed code tail not_ppm not_ppt = rw (not_ppm, not_ppt) (grind (arith, nat_tests))
 
 front_long : (comps code x y : ℕ) (tail : List ℕ) (n : ℕ) → length_at (255 ∷ code ∷ x ∷ y ∷ tail) ≡ n → n ≤ 2 + length tail → least_length comps code ≤ n
     → ((code == SOT) && not (n == 10)) ≡ false → breaks_1 comps (255 ∷ code ∷ x ∷ y ∷ tail) ≡ false
@@ -88,7 +82,6 @@ whole_read comps code body rest segment whole is =
     record {
       rules = clear_broken comps bytes (record {
         marker = front_marker code (x ∷ y ∷ (body ++ rest)) whole.follows;
-        packed = front_packed code (x ∷ y ∷ (body ++ rest)) whole.not_ppm whole.not_ppt;
         long = front_long comps code x y (body ++ rest) (2 + length body) n (omega (arith, length-append body rest)) whole.least whole.sot;
         inside = rw inner whole.inside;
       });

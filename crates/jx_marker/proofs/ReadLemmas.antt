@@ -18,9 +18,9 @@ use Rattle.jx_marker.specs.Ranges.{InRange, AreBytes, FitsLength, SizInRange, Co
 use Rattle.jx_marker.specs.Laws.{BeginsWith, StandsAt}
 use Rattle.jx_marker.proofs.ValueLemmas.{length_values}
 use Rattle.jx_marker.proofs.CutLemmas.{byte_small, drop_end, cut_2_to, cut_to, bytes_drop, drop_one, cut_2, cut_4, cut_narrow, small_2, small_4, small_narrow, values_spelled, all_values}
-use Rattle.jx_marker.proofs.RuleLemmas.{cleared, both, plain_rules, IsClear, clear, two_bytes, has_room, length_body, not_packed}
+use Rattle.jx_marker.proofs.RuleLemmas.{cleared, both, plain_rules, IsClear, clear, two_bytes, has_room, length_body}
 use Rattle.jx_marker.proofs.ClearLemmas.{IsClearSiz, clear_siz, IsClearShape, IsClearCod, clear_cod, IsClearCoc, clear_coc, IsClearQuant, clear_qcd, IsClearQcc, clear_qcc, IsClearRgn, clear_rgn, IsClearPoc, clear_poc, sot_left}
-use Rattle.std.proofs.lemmas.Bool.{cases_Bool, or_parts, and_parts, ne_eqb, not-false}
+use Rattle.std.proofs.lemmas.Bool.{cases_Bool, or_parts, and_parts, not-false}
 
 -- SIZ
 
@@ -326,8 +326,6 @@ pub record IsSound (comps code : ℕ) (body : List ℕ) : Type 0 where
   pub least : least_length comps code ≤ 2 + length body
   pub sot : code ≡ SOT → length body ≡ 8
   pub follows : has_length code ≡ true
-  pub not_ppm : (code == PPM) ≡ false
-  pub not_ppt : (code == PPT) ≡ false
 
 pub record IsSpelled (comps code : ℕ) (body : List ℕ) : Type 0 where
   pub spelled : spelling comps (value_of comps code body) ≡ with_length code body
@@ -404,6 +402,28 @@ read_tlm comps body h =
     let all = rw (plain_rules comps TLM body (record { siz = refl; cod = refl; coc = refl; qcd = refl; qcc = refl; rgn = refl; poc = refl })) at h.rules in
     record { spelled = refl; range = record { some = not_short (length body) 2 (cleared LENGTH_LISTS (breaks_13 TLM body) [] all).0; count = h.fits; each = h.are_bytes } }
 
+read_ppm : (comps : ℕ) (body : List ℕ) → IsSound comps PPM body → IsSpelled comps PPM body
+unfolding breaks_13
+read_ppm comps body h =
+    let all = rw (plain_rules comps PPM body (record { siz = refl; cod = refl; coc = refl; qcd = refl; qcc = refl; rgn = refl; poc = refl })) at h.rules in
+    let long = or_parts (ltb (2 + length body) 3) false (cleared LENGTH_LISTS (breaks_13 PPM body) [] all).0 in
+    let some : 1 ≤ length body = not_short (length body) 1 long.0 in
+    record {
+      spelled = ap (with_length PPM) (sym (cut_to body 0 1 refl (omega arith)));
+      range = record { index_fits = byte_small body h.are_bytes 0; count = omega (arith, h.fits, length-drop 1 body); each = bytes_drop body 1 h.are_bytes };
+    }
+
+read_ppt : (comps : ℕ) (body : List ℕ) → IsSound comps PPT body → IsSpelled comps PPT body
+unfolding breaks_13
+read_ppt comps body h =
+    let all = rw (plain_rules comps PPT body (record { siz = refl; cod = refl; coc = refl; qcd = refl; qcc = refl; rgn = refl; poc = refl })) at h.rules in
+    let long = or_parts (ltb (2 + length body) 3) false (cleared LENGTH_LISTS (breaks_13 PPT body) [] all).0 in
+    let some : 1 ≤ length body = not_short (length body) 1 long.0 in
+    record {
+      spelled = ap (with_length PPT) (sym (cut_to body 0 1 refl (omega arith)));
+      range = record { index_fits = byte_small body h.are_bytes 0; count = omega (arith, h.fits, length-drop 1 body); each = bytes_drop body 1 h.are_bytes };
+    }
+
 read_sot : (comps : ℕ) (body : List ℕ) → IsSound comps SOT body → IsSpelled comps SOT body
 read_sot comps body h = record { spelled = ap (with_length SOT) (sot_spelled body h.are_bytes (h.sot refl)); range = sot_range body h.are_bytes }
 
@@ -448,7 +468,15 @@ value_spelled comps code body h =
                                                                       elim (is_or_not code TLM) [
                                                                         | inl e ↦ rw e (read_tlm comps body (rw e at h))
                                                                         | inr not_tlm ↦
-                                                                            (let e = sot_left code h.follows not_siz not_cod not_coc not_tlm not_plm not_plt not_qcd not_qcc not_rgn not_poc h.not_ppm h.not_ppt not_crg not_com in rw e (read_sot comps body (rw e at h)))
+                                                                            elim (is_or_not code PPM) [
+                                                                              | inl e ↦ rw e (read_ppm comps body (rw e at h))
+                                                                              | inr not_ppm ↦
+                                                                                  elim (is_or_not code PPT) [
+                                                                                    | inl e ↦ rw e (read_ppt comps body (rw e at h))
+                                                                                    | inr not_ppt ↦
+                                                                                        (let e = sot_left code h.follows not_siz not_cod not_coc not_tlm not_plm not_plt not_qcd not_qcc not_rgn not_poc not_ppm not_ppt not_crg not_com in rw e (read_sot comps body (rw e at h)))
+                                                                                  ]
+                                                                            ]
                                                                       ]
                                                                 ]
                                                           ]
@@ -491,7 +519,6 @@ length_spelled comps bytes are fine follows =
     let room = has_room comps bytes fine.long follows in
     let size = length_body comps bytes room in
     let mark = marker_is bytes two fine.marker in
-    let packed = not_packed comps bytes fine.long fine.packed in
     let word = small_2 bytes 2 are in
     let inner = All-take (λ (byte : ℕ). byte < 256) (length_at bytes - 2) (drop 4 bytes) (bytes_drop bytes 4 are) in
     let least = room.least in
@@ -502,8 +529,6 @@ length_spelled comps bytes are fine follows =
       least = omega arith;
       sot = λ is. (let ten = room.sot is in omega arith);
       follows = follows;
-      not_ppm = ne_eqb (code_at bytes) PPM packed.0;
-      not_ppt = ne_eqb (code_at bytes) PPT packed.1;
     } in
     let done = value_spelled comps (code_at bytes) (body_at bytes) sound in
     rw follows (record {

@@ -1,5 +1,5 @@
 -- Which rules speak of which segment, and what follows where none is violated.
-use Rattle.std.proofs.Common.{◌≡◌, ◌≢◌, ◌<◌, ◌≤◌, ◌+◌, ℕ, List, ◌∷◌, [], length, arith, refl, Bool, true, false, ◌&&◌, ◌==◌, not, None, ltb, leb, length-take, length-drop}
+use Rattle.std.proofs.Common.{◌≡◌, ◌<◌, ◌≤◌, ◌+◌, ℕ, List, ◌∷◌, [], length, arith, refl, Bool, true, false, ◌&&◌, ◌==◌, not, None, ltb, leb, length-take, length-drop}
 use Rattle.std.proofs.lemmas.Bool.Decides.{nat_tests}
 use Rattle.byteorder.specs.Endian.{big_from}
 use Rattle.jx_marker.specs.Codes.{SIZ, COD, COC, TLM, PLM, PLT, QCD, QCC, RGN, POC, PPM, PPT, SOT}
@@ -8,8 +8,8 @@ use Rattle.std.specs.List.{list_all}
 use Rattle.jx_marker.specs.Values.{values_from, comp_size_at}
 use Rattle.jx_marker.proofs.ValueLemmas.{length_values}
 use Rattle.jx_marker.specs.Segments.{code_at, length_at, body_at}
-use Rattle.jx_marker.specs.RuleNumbers.{CAPABILITIES, CODING, COMPONENT, LENGTH, LENGTH_LISTS, MARKER, PACKED_HEADERS, PRECINCTS, PROGRESSIONS, QUANTIZATION, REGION, SIZ_FIELDS, SIZ_LENGTH, STYLE}
-use Rattle.jx_marker.specs.Rules.{breaks_1, breaks_2, breaks_3, breaks_4, breaks_5, breaks_6, breaks_7, breaks_8, breaks_9, breaks_10, breaks_11, breaks_12, breaks_13, breaks_14, first_true, rules_inside, first_broken, least_length, axis_fits, comp_size_fits}
+use Rattle.jx_marker.specs.RuleNumbers.{CAPABILITIES, CODING, COMPONENT, LENGTH, LENGTH_LISTS, MARKER, PRECINCTS, PROGRESSIONS, QUANTIZATION, REGION, SIZ_FIELDS, SIZ_LENGTH, STYLE}
+use Rattle.jx_marker.specs.Rules.{breaks_1, breaks_2, breaks_3, breaks_4, breaks_5, breaks_6, breaks_7, breaks_8, breaks_9, breaks_10, breaks_11, breaks_12, breaks_13, first_true, rules_inside, first_broken, least_length, axis_fits, comp_size_fits}
 use Rattle.std.proofs.lemmas.Bool.{or_parts}
 
 pub siz_rules : (comps : ℕ) (body : List ℕ) → first_true (rules_inside comps SIZ body) ≡ first_true ((SIZ_LENGTH, breaks_3 SIZ body) ∷ (SIZ_FIELDS, breaks_4 SIZ body) ∷ (CAPABILITIES, breaks_5 SIZ body) ∷ [])
@@ -67,7 +67,9 @@ alone_rules comps code body none =
     let qcc = or_parts (code == QCC) _ qcd.1 in
     let rgn = or_parts (code == RGN) _ qcc.1 in
     let poc = or_parts (code == POC) _ rgn.1 in
-    rw (plain_rules comps code body (record { siz = siz.0; cod = cod.0; coc = coc.0; qcd = qcd.0; qcc = qcc.0; rgn = rgn.0; poc = poc.0 }), plm.0, plt.0, tlm.0) refl
+    let ppm = or_parts (code == PPM) _ poc.1 in
+    let ppt = or_parts (code == PPT) _ ppm.1 in
+    rw (plain_rules comps code body (record { siz = siz.0; cod = cod.0; coc = coc.0; qcd = qcd.0; qcc = qcc.0; rgn = rgn.0; poc = poc.0 }), plm.0, plt.0, ppm.0, ppt.0, tlm.0) refl
 
 -- a test that comes first in a list of which none is true
 pub cleared : (n : ℕ) (test : Bool) (rest : List (ℕ × Bool)) → first_true ((n, test) ∷ rest) ≡ None → (test ≡ false) × (first_true rest ≡ None)
@@ -77,20 +79,18 @@ cleared n false rest h = (refl, h)
 -- no rule is violated at a place
 pub record IsClear (comps : ℕ) (bytes : List ℕ) : Type 0 where
   pub marker : breaks_2 bytes ≡ false
-  pub packed : breaks_14 bytes ≡ false
   pub long : breaks_1 comps bytes ≡ false
   pub inside : first_true (rules_inside comps (code_at bytes) (body_at bytes)) ≡ None
 
 pub clear : (comps : ℕ) (bytes : List ℕ) → first_broken comps bytes ≡ None → IsClear comps bytes
 clear comps bytes h =
     let inside : List (ℕ × Bool) = rules_inside comps (code_at bytes) (body_at bytes) in
-    let second = cleared MARKER (breaks_2 bytes) ((PACKED_HEADERS, breaks_14 bytes) ∷ (LENGTH, breaks_1 comps bytes) ∷ inside) h in
-    let fourteenth = cleared PACKED_HEADERS (breaks_14 bytes) ((LENGTH, breaks_1 comps bytes) ∷ inside) second.1 in
-    let first = cleared LENGTH (breaks_1 comps bytes) inside fourteenth.1 in
-    record { marker = second.0; packed = fourteenth.0; long = first.0; inside = first.1 }
+    let second = cleared MARKER (breaks_2 bytes) ((LENGTH, breaks_1 comps bytes) ∷ inside) h in
+    let first = cleared LENGTH (breaks_1 comps bytes) inside second.1 in
+    record { marker = second.0; long = first.0; inside = first.1 }
 
 pub clear_broken : (comps : ℕ) (bytes : List ℕ) → IsClear comps bytes → first_broken comps bytes ≡ None
-clear_broken comps bytes h = rw (h.marker, h.packed, h.long) h.inside
+clear_broken comps bytes h = rw (h.marker, h.long) h.inside
 
 pub two_bytes : (comps : ℕ) (bytes : List ℕ) → breaks_1 comps bytes ≡ false → 2 ≤ length bytes
 unfolding breaks_1
@@ -143,28 +143,3 @@ canvas_broken body some most across down =
     let least : ltb 0 (big_from 34 2 body) ≡ true = grind (arith, nat_tests) in
     let greatest : leb (big_from 34 2 body) 16384 ≡ true = grind (arith, nat_tests) in
     rw (count, least, greatest, across, down) refl
-
-pub not_packed : (comps : ℕ) (bytes : List ℕ) → breaks_1 comps bytes ≡ false → breaks_14 bytes ≡ false → (code_at bytes ≢ PPM) × (code_at bytes ≢ PPT)
-unfolding breaks_14
-not_packed comps bytes long packed =
-    let two = two_bytes comps bytes long in
-    let long_enough : leb 2 (length bytes) ≡ true = grind (arith, nat_tests) in
-    let codes = both (leb 2 (length bytes)) _ long_enough packed in
-    let each = or_parts (code_at bytes == PPM) _ codes in
-    (λ is. grind (arith, nat_tests, each, is), λ is. grind (arith, nat_tests, each, is))
-
-pub packed_not_alone : (code : ℕ) → has_length code ≡ false → ((code == PPM) ≡ false) × ((code == PPT) ≡ false)
-packed_not_alone code none =
-    let siz = or_parts (code == SIZ) _ none in
-    let cod = or_parts (code == COD) _ siz.1 in
-    let coc = or_parts (code == COC) _ cod.1 in
-    let tlm = or_parts (code == TLM) _ coc.1 in
-    let plm = or_parts (code == PLM) _ tlm.1 in
-    let plt = or_parts (code == PLT) _ plm.1 in
-    let qcd = or_parts (code == QCD) _ plt.1 in
-    let qcc = or_parts (code == QCC) _ qcd.1 in
-    let rgn = or_parts (code == RGN) _ qcc.1 in
-    let poc = or_parts (code == POC) _ rgn.1 in
-    let ppm = or_parts (code == PPM) _ poc.1 in
-    let ppt = or_parts (code == PPT) _ ppm.1 in
-    (ppm.0, ppt.0)

@@ -6,7 +6,7 @@ use Rattle.std.specs.List.{flat_map, list_all, list_any}
 use Rattle.std.proofs.lemmas.List.Elements.{recursion_from_All}
 use Rattle.byteorder.specs.Endian.{big_from, big_bytes}
 use Rattle.byteorder.specs.Numbers.{big_number-reads_back, length-bytes_high_first}
-use Rattle.jx_marker.specs.Codes.{SOC, SIZ, COD, COC, TLM, PLM, PLT, QCD, QCC, RGN, POC, CRG, COM, SOT, SOD, EOC}
+use Rattle.jx_marker.specs.Codes.{SOC, SIZ, COD, COC, TLM, PLM, PLT, QCD, QCC, RGN, POC, PPM, PPT, CRG, COM, SOT, SOD, EOC}
 use Rattle.jx_marker.specs.declared.CompSize.{CompSize}
 use Rattle.jx_marker.specs.declared.Siz.{Siz}
 use Rattle.jx_marker.specs.declared.Shape.{Shape}
@@ -19,10 +19,10 @@ use Rattle.jx_marker.specs.declared.Segment.TheVariants as segment
 use Rattle.jx_marker.specs.Markers.{has_length, stands_alone, index_size, entry_size, progression_size}
 use Rattle.jx_marker.specs.Values.{values_from, comp_size_at, comp_size_bytes, siz_at, siz_bytes, canvas_bytes, shape_at, shape_bytes, precinct_bit, scod, cod_at, cod_bytes, index_at, index_bytes, entry_at, quant_at, quant_bytes, progression_at, progression_bytes, poc_at, poc_bytes, sot_at, sot_bytes}
 use Rattle.jx_marker.specs.Segments.{spelling, with_length, value_of, body_at, segment_at}
-use Rattle.jx_marker.specs.Rules.{breaks_1, breaks_2, breaks_3, breaks_4, breaks_5, breaks_6, breaks_7, breaks_8, breaks_9, breaks_10, breaks_11, breaks_12, breaks_13, breaks_14, siz_fits, shape_fits, cod_fits, quant_fits, has_zero_exponent, progression_fits}
-use Rattle.jx_marker.specs.Ranges.{InRange, SizInRange, CompSizeInRange, ShapeInRange, CodInRange, CocInRange, QuantInRange, QccInRange, RgnInRange, ProgressionInRange, PocInRange, BytesInRange, SotInRange}
+use Rattle.jx_marker.specs.Rules.{breaks_1, breaks_2, breaks_3, breaks_4, breaks_5, breaks_6, breaks_7, breaks_8, breaks_9, breaks_10, breaks_11, breaks_12, breaks_13, siz_fits, shape_fits, cod_fits, quant_fits, has_zero_exponent, progression_fits}
+use Rattle.jx_marker.specs.Ranges.{InRange, SizInRange, CompSizeInRange, ShapeInRange, CodInRange, CocInRange, QuantInRange, QccInRange, RgnInRange, ProgressionInRange, PocInRange, BytesInRange, PackedInRange, SotInRange}
 use Rattle.jx_marker.specs.Laws.{StandsAt}
-use Rattle.jx_marker.proofs.RuleLemmas.{siz_rules, cod_rules, coc_rules, qcd_rules, qcc_rules, rgn_rules, poc_rules, plain_rules, alone_rules, clear_broken, packed_not_alone}
+use Rattle.jx_marker.proofs.RuleLemmas.{siz_rules, cod_rules, coc_rules, qcd_rules, qcc_rules, rgn_rules, poc_rules, plain_rules, alone_rules, clear_broken}
 use Rattle.jx_marker.proofs.PutLemmas.{length_siz, length_cod, length_quant, length_qcc, length_poc, length_progression, most_comps}
 use Rattle.jx_marker.proofs.FrontLemmas.{whole_read, values_read, slice_past, big_from_past}
 use Rattle.std.proofs.lemmas.Bool.{eq-eqb, le-leb, lt-ltb, lt-leb, and_from}
@@ -81,8 +81,6 @@ siz_is_read comps siz rest range =
     let fifth : breaks_5 SIZ body ≡ false = ap (λ (s : Siz). leb (2 ^ 14) s.rsiz) value ∙ small in
     whole_read comps SIZ body rest (segment.Siz siz) (record {
       follows = refl;
-      not_ppm = refl;
-      not_ppt = refl;
       fits = omega arith;
       least = omega arith;
       sot = refl;
@@ -234,8 +232,6 @@ cod_is_read comps cod rest range =
     let count = most_precincts cod.shape range.shape in
     whole_read comps COD body rest (segment.Cod cod) (record {
       follows = refl;
-      not_ppm = refl;
-      not_ppt = refl;
       fits = omega arith;
       least = omega arith;
       sot = refl;
@@ -310,8 +306,6 @@ coc_is_read comps comp shape rest range =
     let narrow = index_most comps in
     whole_read comps COC body rest (segment.Coc comp shape) (record {
       follows = refl;
-      not_ppm = refl;
-      not_ppt = refl;
       fits = omega arith;
       least = omega arith;
       sot = refl;
@@ -369,8 +363,6 @@ qcd_is_read comps quant rest range =
     let count = range.count in
     whole_read comps QCD body rest (segment.Qcd quant) (record {
       follows = refl;
-      not_ppm = refl;
-      not_ppt = refl;
       fits = omega arith;
       least = omega arith;
       sot = refl;
@@ -393,8 +385,6 @@ qcc_is_read comps comp quant rest range =
     let value : quant_at (index_size comps) body ≡ quant = quant_value quant (index_size comps) range.fits front (index_size comps) place in
     whole_read comps QCC body rest (segment.Qcc comp quant) (record {
       follows = refl;
-      not_ppm = refl;
-      not_ppt = refl;
       fits = omega arith;
       least = omega arith;
       sot = refl;
@@ -419,8 +409,6 @@ rgn_is_read comps comp shift rest range =
     let shift_is : slice_index body (1 + index_size comps) ≡ shift = ap (λ (n : ℕ). slice_index body n) here ∙ slice_past (index_bytes comps comp) (0 ∷ shift ∷ []) 1 in
     whole_read comps RGN body rest (segment.Rgn comp shift) (record {
       follows = refl;
-      not_ppm = refl;
-      not_ppt = refl;
       fits = omega arith;
       least = omega arith;
       sot = refl;
@@ -516,8 +504,6 @@ poc_is_read comps entries rest range =
     let count = range.count in
     whole_read comps POC body rest (segment.Poc entries) (record {
       follows = refl;
-      not_ppm = refl;
-      not_ppt = refl;
       fits = omega arith;
       least = omega arith;
       sot = refl;
@@ -530,8 +516,6 @@ crg_is_read : (comps : ℕ) (bytes rest : List ℕ) → BytesInRange 0 bytes →
 unfolding breaks_13
 crg_is_read comps bytes rest range = whole_read comps CRG bytes rest (segment.Crg bytes) (record {
   follows = refl;
-  not_ppm = refl;
-  not_ppt = refl;
   fits = range.count;
   least = omega arith;
   sot = refl;
@@ -542,8 +526,6 @@ com_is_read : (comps : ℕ) (bytes rest : List ℕ) → BytesInRange 0 bytes →
 unfolding breaks_13
 com_is_read comps bytes rest range = whole_read comps COM bytes rest (segment.Com bytes) (record {
   follows = refl;
-  not_ppm = refl;
-  not_ppt = refl;
   fits = range.count;
   least = omega arith;
   sot = refl;
@@ -557,8 +539,6 @@ plt_is_read : (comps : ℕ) (bytes rest : List ℕ) → BytesInRange 1 bytes →
 unfolding breaks_13
 plt_is_read comps bytes rest range = whole_read comps PLT bytes rest (segment.Plt bytes) (record {
   follows = refl;
-  not_ppm = refl;
-  not_ppt = refl;
   fits = range.count;
   least = omega arith;
   sot = refl;
@@ -570,8 +550,6 @@ plm_is_read : (comps : ℕ) (bytes rest : List ℕ) → BytesInRange 1 bytes →
 unfolding breaks_13
 plm_is_read comps bytes rest range = whole_read comps PLM bytes rest (segment.Plm bytes) (record {
   follows = refl;
-  not_ppm = refl;
-  not_ppt = refl;
   fits = range.count;
   least = omega arith;
   sot = refl;
@@ -583,13 +561,33 @@ tlm_is_read : (comps : ℕ) (bytes rest : List ℕ) → BytesInRange 2 bytes →
 unfolding breaks_13
 tlm_is_read comps bytes rest range = whole_read comps TLM bytes rest (segment.Tlm bytes) (record {
   follows = refl;
-  not_ppm = refl;
-  not_ppt = refl;
   fits = range.count;
   least = omega arith;
   sot = refl;
   inside = plain_rules comps TLM bytes (record { siz = refl; cod = refl; coc = refl; qcd = refl; qcc = refl; rgn = refl; poc = refl })
       ∙ (let e = long_enough (length bytes) 2 range.some in rw e refl);
+}) refl
+
+ppm_is_read : (comps index : ℕ) (bytes rest : List ℕ) → PackedInRange index bytes → StandsAt comps (with_length PPM (index ∷ bytes) ++ rest) (segment.Ppm index bytes) (length (with_length PPM (index ∷ bytes)))
+unfolding breaks_13
+ppm_is_read comps index bytes rest range = whole_read comps PPM (index ∷ bytes) rest (segment.Ppm index bytes) (record {
+  follows = refl;
+  fits = omega (arith, range.count);
+  least = omega arith;
+  sot = refl;
+  inside = plain_rules comps PPM (index ∷ bytes) (record { siz = refl; cod = refl; coc = refl; qcd = refl; qcc = refl; rgn = refl; poc = refl })
+      ∙ (let e = long_enough (suc (length bytes)) 1 (omega arith) in rw e refl);
+}) refl
+
+ppt_is_read : (comps index : ℕ) (bytes rest : List ℕ) → PackedInRange index bytes → StandsAt comps (with_length PPT (index ∷ bytes) ++ rest) (segment.Ppt index bytes) (length (with_length PPT (index ∷ bytes)))
+unfolding breaks_13
+ppt_is_read comps index bytes rest range = whole_read comps PPT (index ∷ bytes) rest (segment.Ppt index bytes) (record {
+  follows = refl;
+  fits = omega (arith, range.count);
+  least = omega arith;
+  sot = refl;
+  inside = plain_rules comps PPT (index ∷ bytes) (record { siz = refl; cod = refl; coc = refl; qcd = refl; qcc = refl; rgn = refl; poc = refl })
+      ∙ (let e = long_enough (suc (length bytes)) 1 (omega arith) in rw e refl);
 }) refl
 
 sot_value : (sot : Sot) → SotInRange sot → sot_at (sot_bytes sot) ≡ sot
@@ -602,8 +600,6 @@ sot_is_read : (comps : ℕ) (sot : Sot) (rest : List ℕ) → SotInRange sot →
 unfolding breaks_13
 sot_is_read comps sot rest range = whole_read comps SOT (sot_bytes sot) rest (segment.Sot sot) (record {
   follows = refl;
-  not_ppm = refl;
-  not_ppt = refl;
   fits = omega arith;
   least = omega arith;
   sot = refl;
@@ -614,15 +610,13 @@ sot_is_read comps sot rest range = whole_read comps SOT (sot_bytes sot) rest (se
 
 alone_is_read : (comps code : ℕ) (rest : List ℕ) (s : Segment) → has_length code ≡ false → stands_alone code ≡ true → segment_at comps (255 ∷ code ∷ rest) ≡ s
     → StandsAt comps (255 ∷ code ∷ rest) s 2
-unfolding breaks_1 breaks_2 breaks_14
+unfolding breaks_1 breaks_2
 alone_is_read comps code rest s none alone value =
     let long : ltb (length (255 ∷ code ∷ rest)) 2 ≡ false = grind (arith, nat_tests) in
     let two : leb 2 (length (255 ∷ code ∷ rest)) ≡ true = grind (arith, nat_tests) in
-    let codes = packed_not_alone code none in
     record {
       rules = clear_broken comps (255 ∷ code ∷ rest) (record {
         marker = rw (none, alone, two) refl;
-        packed = rw (two, codes.0, codes.1) refl;
         long = rw (long, none) refl;
         inside = alone_rules comps code (body_at (255 ∷ code ∷ rest)) none;
       });
@@ -653,6 +647,8 @@ segment_is_read comps (segment.Com bytes) rest range = com_is_read comps bytes r
 segment_is_read comps (segment.Plt bytes) rest range = plt_is_read comps bytes rest range
 segment_is_read comps (segment.Plm bytes) rest range = plm_is_read comps bytes rest range
 segment_is_read comps (segment.Tlm bytes) rest range = tlm_is_read comps bytes rest range
+segment_is_read comps (segment.Ppm index bytes) rest range = ppm_is_read comps index bytes rest range
+segment_is_read comps (segment.Ppt index bytes) rest range = ppt_is_read comps index bytes rest range
 segment_is_read comps (segment.Sot sot) rest range = sot_is_read comps sot rest range
 segment_is_read comps segment.Sod rest range = alone_is_read comps SOD rest segment.Sod refl refl refl
 segment_is_read comps segment.Eoc rest range = alone_is_read comps EOC rest segment.Eoc refl refl refl

@@ -102,6 +102,12 @@ pub record BytesInRange (least : ℕ) (bytes : List ℕ) : Type 0 where
   pub count : FitsLength bytes
   pub each : AreBytes bytes
 
+-- Zppm or Zppt, and the data behind it, also none (A.7.4, A.7.5)
+pub record PackedInRange (index : ℕ) (bytes : List ℕ) : Type 0 where
+  pub index_fits : index < 256
+  pub count : 3 + length bytes < 2 ^ 16
+  pub each : AreBytes bytes
+
 pub record SotInRange (sot : Sot) : Type 0 where
   pub tile : sot.tile < 2 ^ 16
   pub psot : sot.psot < 2 ^ 32
@@ -123,6 +129,8 @@ InRange comps (segment.Com bytes) = BytesInRange 0 bytes
 InRange comps (segment.Plt bytes) = BytesInRange 1 bytes
 InRange comps (segment.Plm bytes) = BytesInRange 1 bytes
 InRange comps (segment.Tlm bytes) = BytesInRange 2 bytes
+InRange comps (segment.Ppm index bytes) = PackedInRange index bytes
+InRange comps (segment.Ppt index bytes) = PackedInRange index bytes
 InRange comps (segment.Sot sot) = SotInRange sot
 InRange comps segment.Sod = Unit {0}
 InRange comps segment.Eoc = Unit {0}

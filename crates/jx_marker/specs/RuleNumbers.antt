@@ -49,11 +49,11 @@ PROGRESSIONS = 11
 abbrev pub COMPONENT : ℕ
 COMPONENT = 12
 
--- PLT, PLM or TLM is too short (A.7.1 to A.7.3)
+-- PLT, PLM, TLM, PPM or PPT is too short (A.7)
 abbrev pub LENGTH_LISTS : ℕ
 LENGTH_LISTS = 13
 
--- packet headers are packed into PPM or PPT, which isn't read (A.7.4, A.7.5)
+-- a tile-part's header has a PPT, where the main header has a PPM (A.7.5)
 abbrev pub PACKED_HEADERS : ℕ
 PACKED_HEADERS = 14
 
@@ -124,3 +124,7 @@ BLOCK_BYTES = 30
 -- a byte of a tile is left after its last packet (B.9)
 abbrev pub LEFT_OVER : ℕ
 LEFT_OVER = 31
+
+-- the joined data of PPM isn't a number and so many bytes for each tile-part (A.7.4)
+abbrev pub PACKED_SHARES : ℕ
+PACKED_SHARES = 37

@@ -1,4 +1,4 @@
--- The rules 1 to 14 at one place, and the first of them that the place violates. Rules 3 to 13 speak of a whole
+-- The rules 1 to 13 at one place, and the first of them that the place violates. Rules 3 to 13 speak of a whole
 -- segment: of its marker's second byte and of the bytes after its length.
 use Rattle.std.specs.Prelude.{ℕ, ◌+◌, ◌-◌, ◌*◌, ◌/◌, ◌%◌, ◌^◌, ◌==◌, ◌&&◌, ◌||◌, not, nat_lt, nat_le, Bool, List, [], ◌∷◌, length, drop, Option, find, slice_index, if◌then◌else◌}
 use Rattle.std.specs.Option.{option_map}
@@ -10,16 +10,12 @@ use Rattle.jx_marker.specs.declared.Progression.{Progression}
 use Rattle.jx_marker.specs.Markers.{has_length, stands_alone, index_size, entry_size, progression_size}
 use Rattle.jx_marker.specs.Values.{siz_at, poc_at, index_at}
 use Rattle.jx_marker.specs.Segments.{code_at, length_at, body_at}
-use Rattle.jx_marker.specs.RuleNumbers.{CAPABILITIES, CODING, COMPONENT, LENGTH, LENGTH_LISTS, MARKER, PACKED_HEADERS, PRECINCTS, PROGRESSIONS, QUANTIZATION, REGION, SIZ_FIELDS, SIZ_LENGTH, STYLE}
-use Rattle.jx_marker.specs.Codes.{SIZ, COD, COC, TLM, PLM, PLT, QCD, QCC, RGN, POC, SOT}
+use Rattle.jx_marker.specs.RuleNumbers.{CAPABILITIES, CODING, COMPONENT, LENGTH, LENGTH_LISTS, MARKER, PRECINCTS, PROGRESSIONS, QUANTIZATION, REGION, SIZ_FIELDS, SIZ_LENGTH, STYLE}
+use Rattle.jx_marker.specs.Codes.{SIZ, COD, COC, TLM, PLM, PLT, QCD, QCC, RGN, POC, PPM, PPT, SOT}
 
 -- rule 2: two bytes that are no marker (Table A.2), or SOP or EPH, which stand in tile data alone (A.8)
 unfoldable pub breaks_2 : List ℕ → Bool
 breaks_2 bytes = nat_le 2 (length bytes) && not ((slice_index bytes 0 == 255) && (has_length (code_at bytes) || stands_alone (code_at bytes)))
-
--- rule 14: packed packet headers, PPM or PPT (A.7.4, A.7.5)
-unfoldable pub breaks_14 : List ℕ → Bool
-breaks_14 bytes = nat_le 2 (length bytes) && ((code_at bytes == 96) || (code_at bytes == 97))
 
 -- the least length of a segment: up to Csiz in SIZ, to the number of levels in COD and COC, to Sqcd or Srgn in
 -- QCD, QCC and RGN, and one entry in POC
@@ -133,9 +129,9 @@ breaks_11 comps code body = (code == POC) && not ((length body % progression_siz
 unfoldable pub breaks_12 : ℕ → ℕ → List ℕ → Bool
 breaks_12 comps code body = ((code == COC) || ((code == QCC) || (code == RGN))) && nat_le comps (index_at comps 0 body)
 
--- rule 13: PLT or PLM is shorter than 3, or TLM than 4 (A.7.1 to A.7.3)
+-- rule 13: PLT, PLM, PPM or PPT is shorter than 3, or TLM than 4 (A.7)
 unfoldable pub breaks_13 : ℕ → List ℕ → Bool
-breaks_13 code body = (((code == PLM) || (code == PLT)) && nat_lt (2 + length body) 3) || ((code == TLM) && nat_lt (2 + length body) 4)
+breaks_13 code body = (((code == PLM) || ((code == PLT) || ((code == PPM) || (code == PPT)))) && nat_lt (2 + length body) 3) || ((code == TLM) && nat_lt (2 + length body) 4)
 
 -- the number of the first test that is true
 abbrev pub first_true : List (ℕ × Bool) → Option ℕ
@@ -148,9 +144,9 @@ rules_inside comps code body =
     ∷ (STYLE, breaks_7 comps code body) ∷ (PRECINCTS, breaks_8 comps code body) ∷ (QUANTIZATION, breaks_9 comps code body) ∷ (REGION, breaks_10 comps code body)
     ∷ (PROGRESSIONS, breaks_11 comps code body) ∷ (LENGTH_LISTS, breaks_13 code body) ∷ (COMPONENT, breaks_12 comps code body) ∷ []
 
--- the rules 1 to 14, in the order in which they are tested at a place
+-- the rules 1 to 13, in the order in which they are tested at a place
 abbrev pub rules_at : ℕ → List ℕ → List (ℕ × Bool)
-rules_at comps bytes = (MARKER, breaks_2 bytes) ∷ (PACKED_HEADERS, breaks_14 bytes) ∷ (LENGTH, breaks_1 comps bytes) ∷ rules_inside comps (code_at bytes) (body_at bytes)
+rules_at comps bytes = (MARKER, breaks_2 bytes) ∷ (LENGTH, breaks_1 comps bytes) ∷ rules_inside comps (code_at bytes) (body_at bytes)
 
 -- the first rule that is violated at the front of these bytes
 abbrev pub first_broken : ℕ → List ℕ → Option ℕ

@@ -5,7 +5,7 @@ use Rattle.jx_marker.specs.declared.Segment.{Segment}
 use Rattle.jx_marker.specs.declared.Segment.TheVariants as segment
 use Rattle.jx_marker.specs.Markers.{has_length, index_size}
 use Rattle.jx_marker.specs.Values.{siz_bytes, siz_at, shape_bytes, shape_at, precinct_bit, cod_bytes, cod_at, index_bytes, index_at, quant_bytes, quant_at, poc_bytes, poc_at, sot_bytes, sot_at}
-use Rattle.jx_marker.specs.Codes.{SOC, SIZ, COD, COC, TLM, PLM, PLT, QCD, QCC, RGN, POC, CRG, COM, SOT, SOD, EOC}
+use Rattle.jx_marker.specs.Codes.{SOC, SIZ, COD, COC, TLM, PLM, PLT, QCD, QCC, RGN, POC, PPM, PPT, CRG, COM, SOT, SOD, EOC}
 
 -- a marker alone
 abbrev pub marker : ℕ → List ℕ
@@ -30,6 +30,8 @@ spelling comps (segment.Com bytes) = with_length COM bytes
 spelling comps (segment.Plt bytes) = with_length PLT bytes
 spelling comps (segment.Plm bytes) = with_length PLM bytes
 spelling comps (segment.Tlm bytes) = with_length TLM bytes
+spelling comps (segment.Ppm index bytes) = with_length PPM (index ∷ bytes)
+spelling comps (segment.Ppt index bytes) = with_length PPT (index ∷ bytes)
 spelling comps (segment.Sot sot) = with_length SOT (sot_bytes sot)
 spelling comps segment.Sod = marker SOD
 spelling comps segment.Eoc = marker EOC
@@ -66,6 +68,8 @@ value_of comps code body =
     else if code == PLT then segment.Plt body
     else if code == PLM then segment.Plm body
     else if code == TLM then segment.Tlm body
+    else if code == PPM then segment.Ppm (slice_index body 0) (drop 1 body)
+    else if code == PPT then segment.Ppt (slice_index body 0) (drop 1 body)
     else segment.Sot (sot_at body)
 
 -- the segment of a marker without a length

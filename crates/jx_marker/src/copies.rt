@@ -97,6 +97,14 @@ impl Segment {
             Segment::Plt(bytes) => Segment::Plt(bytes.copy()?),
             Segment::Plm(bytes) => Segment::Plm(bytes.copy()?),
             Segment::Tlm(bytes) => Segment::Tlm(bytes.copy()?),
+            Segment::Ppm { index, bytes } => Segment::Ppm {
+                index: *index,
+                bytes: bytes.copy()?,
+            },
+            Segment::Ppt { index, bytes } => Segment::Ppt {
+                index: *index,
+                bytes: bytes.copy()?,
+            },
             Segment::Sot(sot) => Segment::Sot(*sot),
             Segment::Sod => Segment::Sod,
             Segment::Eoc => Segment::Eoc,

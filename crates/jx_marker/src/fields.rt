@@ -155,6 +155,15 @@ pub fn read_poc(alloc: Global, comps: u16, body: &[u8]) -> Result<Progressions, 
     Ok(Progressions::new(items))
 }
 
+/// The index and the data behind it.
+pub fn read_packed(alloc: Global, body: &[u8]) -> Result<(u8, Bytes), AllocError>
+    requires { 1 ≤ length body.now }
+    ensures { IfOk result (λ read. (read.0 ≡ slice_index body.now 0) × (read.1 ≡ drop 1 body.now)) }
+{
+    let bytes = bytes_of(alloc, &body[1..])?;
+    Ok((body[0], bytes))
+}
+
 pub fn read_sot(body: &[u8]) -> Sot
     requires { 8 ≤ length body.now }
     ensures { result ≡ sot_at body.now }

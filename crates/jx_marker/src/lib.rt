@@ -16,6 +16,7 @@ mod rules;
 mod siz_rules;
 
 pub use lists::{Bytes, CompSizes, Numbers, Progressions};
+pub use numbers::u32_at;
 pub use packets::{eph, sop};
 pub use put::put_segment;
 pub use read::read_segment;
@@ -159,6 +160,10 @@ pub enum Segment {
     Plm(Bytes),
     /// Tile-part lengths: the bytes after the length (A.7.1).
     Tlm(Bytes),
+    /// Packed packet headers in the main header: Zppm and the data, also none (A.7.4).
+    Ppm { index: u8, bytes: Bytes },
+    /// Packed packet headers in a tile-part's header: Zppt and the data, also none (A.7.5).
+    Ppt { index: u8, bytes: Bytes },
     /// Start of tile-part (A.4.2).
     Sot(Sot),
     /// Start of data (A.4.3).
@@ -172,7 +177,7 @@ pub enum Segment {
 /// Why no segment was read.
 #[derive(Clone, Copy, Debug, PartialEq, Eq)]
 pub enum Rule {
-    /// The rule of this number, 1 to 14 (`rule_numbers`), is the first that the place violates.
+    /// The rule of this number, 1 to 13 (`rule_numbers`), is the first that the place violates.
     Broken(u8),
     /// Memory was refused.
     NoMemory,

@@ -10,7 +10,7 @@ ghost use Rattle.jx_marker.specs.Ranges.{InRange, SizInRange, ShapeInRange, CodI
 ghost use Rattle.jx_marker.specs.Codes.{SIZ, COD, QCD, POC, SOT};
 
 use crate::codes::{
-    COC, COD, COM, CRG, EOC, PLM, PLT, POC, QCC, QCD, RGN, SIZ, SOC, SOD, SOT, TLM,
+    COC, COD, COM, CRG, EOC, PLM, PLT, POC, PPM, PPT, QCC, QCD, RGN, SIZ, SOC, SOD, SOT, TLM,
 };
 use crate::markers::{entry_size, index_size, progression_size};
 use crate::numbers::{put_narrow, put_u16, put_u32};
@@ -265,6 +265,17 @@ fn put_bytes(out: &mut Vec<u8>, code: u8, bytes: &[u8]) -> Result<(), AllocError
     Ok(())
 }
 
+fn put_packed(out: &mut Vec<u8>, code: u8, index: u8, bytes: &[u8]) -> Result<(), AllocError>
+    requires { 3 + length bytes.now < 2 ^ 16 }
+    ensures ok { OnOk result (out.new.items ≡ out.old.items ++ with_length code (index ∷ bytes.now)) }
+    ensures front { take (length out.old.items) out.new.items ≡ out.old.items }
+{
+    put_front(out, code, 1 + bytes.len())?;
+    out.push(index)?;
+    out.extend_from_slice(bytes)?;
+    Ok(())
+}
+
 fn put_sot(out: &mut Vec<u8>, sot: Sot) -> Result<(), AllocError>
     ensures ok { OnOk result (out.new.items ≡ out.old.items ++ with_length SOT (sot_bytes sot)) }
     ensures front { take (length out.old.items) out.new.items ≡ out.old.items }
@@ -303,6 +314,8 @@ fn put_spelling(segment: &Segment, comps: u16, out: &mut Vec<u8>) -> Result<(), 
         Segment::Plt(bytes) => put_bytes(out, PLT, bytes.as_slice()),
         Segment::Plm(bytes) => put_bytes(out, PLM, bytes.as_slice()),
         Segment::Tlm(bytes) => put_bytes(out, TLM, bytes.as_slice()),
+        Segment::Ppm { index, bytes } => put_packed(out, PPM, *index, bytes.as_slice()),
+        Segment::Ppt { index, bytes } => put_packed(out, PPT, *index, bytes.as_slice()),
         Segment::Sot(sot) => put_sot(out, *sot),
         Segment::Sod => put_marker(out, SOD),
         Segment::Eoc => put_marker(out, EOC),

@@ -9,8 +9,12 @@ ghost use Rattle.jx_marker.specs.Ranges.{InRange};
 ghost use Rattle.jx_marker.specs.Laws.{StandsAt, BeginsWith};
 ghost use Rattle.jx_marker.specs.Codes.{SOT};
 
-use crate::codes::{COC, COD, COM, CRG, EOC, PLM, PLT, POC, QCC, QCD, RGN, SIZ, SOC, SOD, TLM};
-use crate::fields::{bytes_of, read_cod, read_poc, read_quant, read_shape, read_siz, read_sot};
+use crate::codes::{
+    COC, COD, COM, CRG, EOC, PLM, PLT, POC, PPM, PPT, QCC, QCD, RGN, SIZ, SOC, SOD, TLM,
+};
+use crate::fields::{
+    bytes_of, read_cod, read_packed, read_poc, read_quant, read_shape, read_siz, read_sot,
+};
 use crate::markers::{has_length, index_size};
 use crate::numbers::{narrow_at, u16_at};
 use crate::rules::{body_of, first_broken};
@@ -22,8 +26,6 @@ fn value_of(alloc: Global, comps: u16, code: u8, body: &[u8]) -> Result<Segment,
     requires rules { first_true (rules_inside comps code body.now) ≡ None }
     requires sot { code ≡ SOT → length body.now ≡ 8 }
     requires marker { has_length code ≡ true }
-    requires not_ppm { code ≢ 96 }
-    requires not_ppt { code ≢ 97 }
     ensures { IfOk result (λ segment. segment ≡ value_of comps code body.now) }
 {
     match code {
@@ -48,6 +50,14 @@ fn value_of(alloc: Global, comps: u16, code: u8, body: &[u8]) -> Result<Segment,
         PLT => Ok(Segment::Plt(bytes_of(alloc, body)?)),
         PLM => Ok(Segment::Plm(bytes_of(alloc, body)?)),
         TLM => Ok(Segment::Tlm(bytes_of(alloc, body)?)),
+        PPM => {
+            let (index, bytes) = read_packed(alloc, body)?;
+            Ok(Segment::Ppm { index, bytes })
+        }
+        PPT => {
+            let (index, bytes) = read_packed(alloc, body)?;
+            Ok(Segment::Ppt { index, bytes })
+        }
         _ => Ok(Segment::Sot(read_sot(body))),
     }
 }
@@ -86,7 +96,7 @@ fn read_front(alloc: Global, bytes: &[u8], comps: u16) -> Result<(Segment, usize
 /// The segment that is spelled at a place in a picture of `comps` components, and the place after it.
 /// SIZ, which tells that number, is read alike with any.
 ///
-/// `Broken(m)` comes exactly where m, from 1 to 14, is the first rule that the place violates.
+/// `Broken(m)` comes exactly where m, from 1 to 13, is the first rule that the place violates.
 pub fn read_segment(
     alloc: Global,
     bytes: &[u8],

@@ -36,10 +36,10 @@ pub const PROGRESSIONS: u8 = 11;
 /// A component's index isn't below the number of components (A.6.2, A.6.3, A.6.5).
 pub const COMPONENT: u8 = 12;
 
-/// PLT, PLM or TLM is too short (A.7.1 to A.7.3).
+/// PLT, PLM, TLM, PPM or PPT is too short (A.7).
 pub const LENGTH_LISTS: u8 = 13;
 
-/// Packet headers are packed into PPM or PPT, which isn't read (A.7.4, A.7.5).
+/// A tile-part's header has a PPT, where the main header has a PPM (A.7.5).
 pub const PACKED_HEADERS: u8 = 14;
 
 /// The file doesn't begin with SOC (A.4.1).
@@ -92,3 +92,6 @@ pub const BLOCK_BYTES: u8 = 30;
 
 /// A byte of a tile is left after its last packet (B.9).
 pub const LEFT_OVER: u8 = 31;
+
+/// The joined data of PPM isn't a number and so many bytes for each tile-part (A.7.4).
+pub const PACKED_SHARES: u8 = 37;

@@ -1,11 +1,11 @@
-//! Which of the rules 1 to 14 a marker segment violates first (ITU-T T.800, Annex A).
+//! Which of the rules 1 to 13 a marker segment violates first (ITU-T T.800, Annex A).
 
 ghost use Rattle.std.specs.Prelude.{◌≡◌, ◌+◌, ◌-◌, ◌*◌, ◌≤◌, ◌<◌, ◌%◌, ◌∷◌, [], nat_le, length, drop, false, true, Some, None, slice_index};
 ghost use Rattle.std.specs.List.{list_all, list_any};
 ghost use Rattle.jx_marker.specs.Markers.{has_length, stands_alone, index_size, entry_size, progression_size};
 ghost use Rattle.jx_marker.specs.Values.{values_from, progression_at, index_at};
 ghost use Rattle.jx_marker.specs.Segments.{length_at, body_at};
-ghost use Rattle.jx_marker.specs.Rules.{breaks_1, breaks_2, breaks_6, breaks_7, breaks_8, breaks_9, breaks_10, breaks_11, breaks_12, breaks_13, breaks_14, least_length, shape_fits, cod_fits, has_zero_exponent, quant_fits, progression_fits, is_order, first_true, rules_inside, first_broken};
+ghost use Rattle.jx_marker.specs.Rules.{breaks_1, breaks_2, breaks_6, breaks_7, breaks_8, breaks_9, breaks_10, breaks_11, breaks_12, breaks_13, least_length, shape_fits, cod_fits, has_zero_exponent, quant_fits, progression_fits, is_order, first_true, rules_inside, first_broken};
 ghost use Rattle.jx_marker.specs.RuleNumbers.{CODING, COMPONENT, LENGTH_LISTS, PRECINCTS, PROGRESSIONS, QUANTIZATION, REGION, STYLE};
 ghost use Rattle.jx_marker.specs.Codes.{SIZ, COD, COC, QCD, QCC, RGN, POC};
 
@@ -15,8 +15,8 @@ use crate::fields::progression_at;
 use crate::markers::{entry_size, has_length, index_size, progression_size, stands_alone};
 use crate::numbers::{narrow_at, u16_at};
 use crate::rule_numbers::{
-    CODING, COMPONENT, LENGTH, LENGTH_LISTS, MARKER, PACKED_HEADERS, PRECINCTS, PROGRESSIONS,
-    QUANTIZATION, REGION, STYLE,
+    CODING, COMPONENT, LENGTH, LENGTH_LISTS, MARKER, PRECINCTS, PROGRESSIONS, QUANTIZATION, REGION,
+    STYLE,
 };
 use crate::siz_rules::siz_rule;
 
@@ -26,14 +26,6 @@ fn breaks_marker(bytes: &[u8]) -> bool
     ensures { result ≡ breaks_2 bytes.now }
 {
     bytes.len() >= 2 && !(bytes[0] == 255 && (has_length(bytes[1]) || stands_alone(bytes[1])))
-}
-
-// Rule 14: packed packet headers.
-#[tactic(auto, unfolding(crate::specs::Rules::breaks_14))]
-fn breaks_packed(bytes: &[u8]) -> bool
-    ensures { result ≡ breaks_14 bytes.now }
-{
-    bytes.len() >= 2 && (bytes[1] == PPM || bytes[1] == PPT)
 }
 
 fn least_length(comps: u16, code: u8) -> usize
@@ -283,13 +275,13 @@ fn poc_rule(comps: u16, body: &[u8]) -> Option<u8>
     None
 }
 
-// Rule 13: a list of lengths that is too short.
+// Rule 13: a list of lengths, or packed packet headers, too short for their first fields.
 #[tactic(auto, unfolding(crate::specs::Rules::breaks_13))]
 fn lengths_rule(code: u8, body: &[u8]) -> Option<u8>
     ensures { result ≡ first_true ((LENGTH_LISTS, breaks_13 code body.now) ∷ []) }
 {
     let broken = match code {
-        PLM | PLT => body.is_empty(),
+        PLM | PLT | PPM | PPT => body.is_empty(),
         TLM => body.len() < 2,
         _ => false,
     };
@@ -326,15 +318,12 @@ pub fn body_of(bytes: &[u8]) -> &[u8]
     body
 }
 
-/// The first of the rules 1 to 14 that is violated at the front of these bytes.
+/// The first of the rules 1 to 13 that is violated at the front of these bytes.
 pub fn first_broken(comps: u16, bytes: &[u8]) -> Option<u8>
     ensures { result ≡ first_broken comps bytes.now }
 {
     if breaks_marker(bytes) {
         return Some(MARKER);
-    }
-    if breaks_packed(bytes) {
-        return Some(PACKED_HEADERS);
     }
     if breaks_length(comps, bytes) {
         return Some(LENGTH);

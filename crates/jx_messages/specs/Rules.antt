@@ -33,8 +33,8 @@ other_words number =
     if number == 10 then rule_row (codes "an RGN segment") (codes "its length is wrong, or its style isn't 0, the only one in Part 1") (codes "A.6.3") else
     if number == 11 then rule_row (codes "a POC segment") (codes "a progression is empty, out of range, or not whole") (codes "A.6.6") else
     if number == 12 then rule_row (codes "a segment of one component") (codes "the picture has no such component") (codes "A.6.2, A.6.3, A.6.5") else
-    if number == 13 then rule_row (codes "a PLT, PLM or TLM segment") (codes "it is too short") (codes "A.7") else
-    rule_row (codes "a PPM or PPT segment") (codes "packet headers that stand apart from their packets aren't read by this\n    program") (codes "A.7.4, A.7.5")
+    if number == 13 then rule_row (codes "a PLT, PLM, TLM, PPM or PPT segment") (codes "it is too short") (codes "A.7") else
+    rule_row (codes "a PPT segment") (codes "the main header has packed packet headers, a PPM segment") (codes "A.7.4, A.7.5")
 
 -- 15 to 19, of headers
 unfoldable pub header_words : ℕ → RuleRow
@@ -65,14 +65,15 @@ packet_words number =
     if number == 30 then rule_row (codes "the byte FF in a code-block's coded bytes") (codes "a byte above 8F follows, or none, which coded bytes never have;\n    the file may be damaged") (codes "C.2.3, B.10.7") else
     rule_row (codes "the data behind the tile's last packet") (codes "no packet is left for these bytes") (codes "B.9")
 
--- 32 to 36, of the boxes of JP2 files
+-- 32 to 36, of the boxes of JP2 files; 37, of packed packet headers
 unfoldable pub box_words : ℕ → RuleRow
 box_words number =
     if number == 32 then rule_row (codes "a box") (codes "fewer bytes are left than its head has (8, or 16 where LBox is 1);\n    the file may be cut short") (codes "I.4") else
     if number == 33 then rule_row (codes "a box") (codes "its length is less than its head's, or is 0, which says that the file\n    ends with it, and it stands in another box") (codes "I.4") else
     if number == 34 then rule_row (codes "a box") (codes "it is longer than what is left of the file, or of the box in which it\n    stands; the file may be cut short") (codes "I.4") else
     if number == 35 then rule_row (codes "the end of the file") (codes "none of its boxes has a codestream (jp2c)") (codes "I.5.4") else
-    rule_row (codes "the beginning of the file") (codes "it is no JP2 file, which begins with the signature box (jP)") (codes "I.5.1")
+    if number == 36 then rule_row (codes "the beginning of the file") (codes "it is no JP2 file, which begins with the signature box (jP)") (codes "I.5.1") else
+    rule_row (codes "the packed packet headers (PPM)") (codes "they aren't a length and so many bytes for each tile-part of the file") (codes "A.7.4")
 
 -- the sentence of each rule
 unfoldable pub rule_words : ℕ → RuleRow

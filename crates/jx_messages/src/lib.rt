@@ -29,7 +29,7 @@ pub enum Refusal {
     Words,
     /// The input violates a rule of the standard at a byte.
     Rule {
-        /// The rule, 1 to 36.
+        /// The rule, 1 to 37.
         number: u8,
         /// The byte, counted from 0.
         place: u64,

@@ -101,10 +101,14 @@ fn other_text(number: u8) -> RuleText
             "the picture has no such component",
             "A.6.2, A.6.3, A.6.5",
         ),
-        13 => row("a PLT, PLM or TLM segment", "it is too short", "A.7"),
+        13 => row(
+            "a PLT, PLM, TLM, PPM or PPT segment",
+            "it is too short",
+            "A.7",
+        ),
         _ => row(
-            "a PPM or PPT segment",
-            "packet headers that stand apart from their packets aren't read by this\n    program",
+            "a PPT segment",
+            "the main header has packed packet headers, a PPM segment",
             "A.7.4, A.7.5",
         ),
     }
@@ -211,7 +215,7 @@ fn packet_text(number: u8) -> RuleText
     }
 }
 
-/// The rules 32 to 36, of the boxes of JP2 files.
+/// The rules 32 to 36, of the boxes of JP2 files, and 37, of packed packet headers.
 fn box_text(number: u8) -> RuleText
     ensures { rule_row result.what.now result.wrong.now result.section.now ≡ box_words number }
 {
@@ -236,15 +240,20 @@ fn box_text(number: u8) -> RuleText
             "none of its boxes has a codestream (jp2c)",
             "I.5.4",
         ),
-        _ => row(
+        36 => row(
             "the beginning of the file",
             "it is no JP2 file, which begins with the signature box (jP)",
             "I.5.1",
         ),
+        _ => row(
+            "the packed packet headers (PPM)",
+            "they aren't a length and so many bytes for each tile-part of the file",
+            "A.7.4",
+        ),
     }
 }
 
-/// A rule in words, 1 to 36.
+/// A rule in words, 1 to 37.
 #[tactic(auto, unfolding(crate::specs::Rules::rule_words))]
 pub(crate) fn rule_text(number: u8) -> RuleText
     ensures { rule_row result.what.now result.wrong.now result.section.now ≡ rule_words number }

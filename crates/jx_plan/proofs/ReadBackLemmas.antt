@@ -12,6 +12,7 @@ use Rattle.jx_codestream.specs.declared.parts.PlacedPart.{PlacedPart}
 use Rattle.jx_codestream.specs.declared.Body.{Body}
 use Rattle.jx_codestream.specs.declared.Tile.{Tile}
 use Rattle.jx_codestream.specs.declared.Stream.{Stream}
+use Rattle.jx_codestream.specs.PackedHeaders.{heads_of}
 use Rattle.jx_codestream.specs.Parts.{parts_of}
 use Rattle.jx_codestream.specs.First.{tile_number}
 use Rattle.jx_codestream.specs.Shapes.{tile_at, no_tile}
@@ -98,16 +99,16 @@ module _ (a : HeaderOptions) (comps : ℕ) (main : List Segment) (t : Tile) (own
   entries_read : progressions_of (all_written a main) own ≡ (tile_written a main t).progressions
   entries_read = by_cod (entries_joined (headers_of own)) (entries_joined (all_written a main)) (entry_in (in_slot 1 (all_written a main))) (in_slot 1 (tile_header a t)) none_own (none_written a main) slot_read
 
-  same_tile : (header other notes : List Segment) (place : ℕ) (entries others : List Progression) (bodies : List Body) → header ≡ other → notes ≡ [] → entries ≡ others
-      → ◌≡◌ {A = Tile} (record { place = place; header = header; notes = notes; progressions = entries; bodies = bodies })
-      (record { place = place; header = other; notes = []; progressions = others; bodies = bodies })
-  same_tile header other notes place entries others bodies h k e = rw (h, k, e) refl
+  same_tile : (header other notes : List Segment) (place : ℕ) (entries others : List Progression) (heads : Option (List Body)) (bodies : List Body) → header ≡ other → notes ≡ [] → entries ≡ others
+      → ◌≡◌ {A = Tile} (record { place = place; header = header; notes = notes; progressions = entries; heads = heads; bodies = bodies })
+      (record { place = place; header = other; notes = []; progressions = others; heads = heads; bodies = bodies })
+  same_tile header other notes place entries others heads bodies h k e = rw (h, k, e) refl
 
   pub tile_read : tile_from (all_written a main) own
-      ≡ record (tile_written a main t) { place = first_place own; header = tile_header a t ++ more; bodies = map (λ (p : PlacedPart). p.body) own }
+      ≡ record (tile_written a main t) { place = first_place own; header = tile_header a t ++ more; heads = heads_of own; bodies = map (λ (p : PlacedPart). p.body) own }
   tile_read =
       same_tile (first_header own) (tile_header a t ++ more) (filter is_com (headers_of (drop 1 own))) (first_place own) (progressions_of (all_written a main) own)
-      (tile_written a main t).progressions (map (λ (p : PlacedPart). p.body) own) first (no_notes (headers_of (drop 1 own)) later) entries_read
+      (tile_written a main t).progressions (heads_of own) (map (λ (p : PlacedPart). p.body) own) first (no_notes (headers_of (drop 1 own)) later) entries_read
 
 pub tile_with_more : (a : HeaderOptions) (comps : ℕ) (main : List Segment) (t : Tile) (own : List PlacedPart) → IsHeaded comps t → HaveHeaders a comps t own
     → IsTileWithMore comps (tile_written a main t) (tile_from (all_written a main) own)

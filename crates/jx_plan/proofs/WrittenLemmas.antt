@@ -31,6 +31,8 @@ left_out (segment.Poc entries) slot h g = grind (arith, nat_tests)
 left_out (segment.Plt bytes) slot h g = grind (arith, nat_tests)
 left_out (segment.Plm bytes) slot h g = grind (arith, nat_tests)
 left_out (segment.Tlm bytes) slot h g = grind (arith, nat_tests)
+left_out (segment.Ppm index bytes) slot h g = grind (arith, nat_tests)
+left_out (segment.Ppt index bytes) slot h g = grind (arith, nat_tests)
 left_out (segment.Skipped code) slot h g = grind (arith, nat_tests)
 left_out _ slot h g = absurd (cc)
 

@@ -79,6 +79,8 @@ is_written (segment.Poc entries) = false
 is_written (segment.Plt bytes) = false
 is_written (segment.Plm bytes) = false
 is_written (segment.Tlm bytes) = false
+is_written (segment.Ppm index bytes) = false
+is_written (segment.Ppt index bytes) = false
 is_written (segment.Skipped code) = false
 is_written _ = true
 
@@ -97,6 +99,7 @@ tile_over a entries t = record {
   header = tile_header a t;
   notes = [];
   progressions = or_list (entry_in (in_slot cod_slot (tile_header a t))) entries;
+  heads = None;
   bodies = [];
 }
 
@@ -107,6 +110,7 @@ tile_written a main t = record {
   header = tile_header a t;
   notes = [];
   progressions = or_list (entry_in (in_slot cod_slot (tile_header a t))) (entry_in (in_slot cod_slot (all_written a main)));
+  heads = None;
   bodies = [];
 }
 

@@ -9,18 +9,24 @@ ghost use Rattle.jx_plan.specs.Headers.{all_written, bytes_for, cod_written, is_
 ghost use Rattle.jx_options.specs.Choices.{lent};
 
 use jx_base::{NoMemory, Style};
-use jx_codestream::{Bodies, Entries, Segments, Stream, Tile, Tiles};
+use jx_codestream::{Bodies, Entries, Heads, Segments, Stream, Tile, Tiles};
 use jx_marker::{Bytes, Cod, Progression, Segment, Shape, Siz};
 use jx_options::{Options, RsizChoice};
 use std::alloc::Global;
 
-/// The segment is written: POC, packet and tile-part lengths and skipped markers aren't.
+/// The segment is written: POC, packet and tile-part lengths, packed packet headers and skipped markers aren't.
 fn is_written(segment: &Segment) -> bool
     ensures { result ≡ is_written segment.now }
 {
     !matches!(
         segment,
-        Segment::Poc(_) | Segment::Plt(_) | Segment::Plm(_) | Segment::Tlm(_) | Segment::Skipped(_)
+        Segment::Poc(_)
+            | Segment::Plt(_)
+            | Segment::Plm(_)
+            | Segment::Tlm(_)
+            | Segment::Ppm { .. }
+            | Segment::Ppt { .. }
+            | Segment::Skipped(_)
     )
 }
 
@@ -242,6 +248,7 @@ fn write_tile(
         header: Segments::new(header),
         notes: Segments::new(Vec::new(alloc)),
         progressions,
+        heads: Heads::none(),
         bodies: Bodies::new(Vec::new(alloc)),
     })
 }
@@ -297,7 +304,8 @@ fn write_siz(siz: &Siz, asked: RsizChoice) -> Result<Siz, NoMemory>
 }
 
 /// The headers of the file that is written as the options ask, with so many layers in each tile, at least 1, as a stream without
-/// tile data: Rsiz is 0 or kept, as asked; POC, PLT, PLM, TLM and skipped markers are left out; each COD has SOP, EPH, order and layers as asked,
+/// tile data: Rsiz is 0 or kept, as asked; POC, PLT, PLM, TLM, PPM, PPT and skipped markers are left out; each COD has SOP, EPH,
+/// order and layers as asked,
 /// and each COD and COC the precincts and the style; a tile's first header takes the COM segments of its later ones; all else is
 /// kept. Time and memory follow the bytes of the headers, the precincts that are written and the number of tiles.
 ///

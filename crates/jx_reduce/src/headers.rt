@@ -8,7 +8,7 @@ ghost use Rattle.jx_reduce.specs.Unreducible.{passes_byte};
 
 use crate::choices::times;
 use jx_base::NoMemory;
-use jx_codestream::{Bodies, Segments, Stream, Tile, Tiles};
+use jx_codestream::{Bodies, Heads, Segments, Stream, Tile, Tiles};
 use jx_marker::{Bytes, Cod, CompSize, CompSizes, Segment, Shape, Siz};
 use std::alloc::Global;
 
@@ -133,18 +133,31 @@ fn copies_of(alloc: Global, segments: &[Segment]) -> Result<Segments, NoMemory>
     Ok(Segments::new(copies))
 }
 
+/// The same packed packet headers.
+fn heads_of(alloc: Global, heads: &Heads) -> Result<Heads, NoMemory>
+    ensures { IfOk result (λ copy. copy ≡ heads.now) }
+{
+    let Some(pieces) = heads.pieces() else {
+        return Ok(Heads::none());
+    };
+    let copy = pieces.to_vec(alloc)?;
+    Ok(Heads::new(copy))
+}
+
 fn tile_left(alloc: Global, tile: &Tile, d: u8) -> Result<Tile, NoMemory>
     ensures { IfOk result (λ left. left ≡ tile_left d tile.now) }
 {
     let header = segments_left(alloc, tile.header.as_slice(), d)?;
     let notes = copies_of(alloc, tile.notes.as_slice())?;
     let progressions = tile.progressions.share()?;
+    let heads = heads_of(alloc, &tile.heads)?;
     let bodies = tile.bodies.as_slice().to_vec(alloc)?;
     Ok(Tile {
         place: tile.place,
         header,
         notes,
         progressions,
+        heads,
         bodies: Bodies::new(bodies),
     })
 }

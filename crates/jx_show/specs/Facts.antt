@@ -13,6 +13,7 @@ use Rattle.jx_marker.specs.declared.Segment.{Segment}
 use Rattle.jx_marker.specs.declared.Segment.TheVariants as segment
 use Rattle.jx_marker.specs.declared.Shape.{Shape}
 use Rattle.jx_marker.specs.declared.Siz.{Siz}
+use Rattle.jx_codestream.specs.declared.Body.{Body}
 use Rattle.jx_codestream.specs.declared.Stream.{Stream}
 use Rattle.jx_codestream.specs.First.{tile_number}
 use Rattle.jx_codestream.specs.Params.{header_of}
@@ -176,6 +177,7 @@ header_facts t ordered segments = joined (topic_facts t ordered segments) 0 5
 abbrev pub is_marked : Mark → Segment → Bool
 is_marked mark.Plt (segment.Plt bytes) = true
 is_marked mark.Plm (segment.Plm bytes) = true
+is_marked mark.Ppm (segment.Ppm index bytes) = true
 is_marked mark.Tlm (segment.Tlm bytes) = true
 is_marked mark.Com (segment.Com bytes) = true
 is_marked _ _ = false
@@ -187,6 +189,18 @@ marked_in m segments = length (filter (is_marked m) segments)
 -- those of a tile: PLT in its first tile-part's header, and comments in all
 abbrev pub lengths_of_tile : Stream → ℕ → ℕ
 lengths_of_tile s t = marked_in mark.Plt (tile_at s t).header
+
+-- whether a tile's packet headers stand apart from its packets (A.7.4, A.7.5), and the tiles of which they do so in PPT: none where the
+-- main header has as many PPM
+abbrev pub packed_of_tile : Option (List Body) → ℕ
+packed_of_tile None = 0
+packed_of_tile (Some pieces) = 1
+
+abbrev pub packed_at : Stream → ℕ → ℕ
+packed_at s t = packed_of_tile (tile_at s t).heads
+
+abbrev pub tiles_with_ppt : Stream → ℕ → ℕ
+tiles_with_ppt s ppm = if nat_lt 0 ppm then 0 else sum_below (packed_at s) (tile_number s.siz)
 
 abbrev pub comments_of_tile : Stream → ℕ → ℕ
 comments_of_tile s t = marked_in mark.Com (tile_at s t).header + length (tile_at s t).notes
@@ -214,6 +228,8 @@ total_facts s blocks =
     ∷ count_fact name.TileParts (parts_of_tile s 0)
     ∷ stands_fact name.Plt (sum_below (lengths_of_tile s) (tile_number s.siz))
     ∷ stands_fact name.Plm (marked_in mark.Plm s.main)
+    ∷ stands_fact name.Ppm (marked_in mark.Ppm s.main)
+    ∷ stands_fact name.Ppt (tiles_with_ppt s (marked_in mark.Ppm s.main))
     ∷ stands_fact name.Tlm (marked_in mark.Tlm s.main)
     ∷ count_fact name.Comments (marked_in mark.Com s.main + sum_below (comments_of_tile s) (tile_number s.siz))
     ∷ count_fact name.Bytes (sum_by block_bytes blocks)

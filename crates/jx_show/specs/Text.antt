@@ -46,6 +46,8 @@ name_text name.Bytes = codes "coded bytes"
 name_text name.TileParts = codes "tile-parts"
 name_text name.Plt = codes "PLT"
 name_text name.Plm = codes "PLM"
+name_text name.Ppm = codes "PPM"
+name_text name.Ppt = codes "PPT"
 name_text name.Tlm = codes "TLM"
 name_text name.Comments = codes "comments"
 

@@ -1,12 +1,13 @@
 //! How many packets, code-blocks, tile-parts and segments there are.
 
-ghost use Rattle.std.specs.Prelude.{◌≡◌, ◌<◌, ◌^◌, ◌++◌, OnOk, string_bytes};
+ghost use Rattle.std.specs.Prelude.{◌≡◌, ◌≤◌, ◌<◌, ◌^◌, ◌++◌, OnOk, string_bytes};
 ghost use Rattle.std.specs.List.{All};
 ghost use Rattle.jx_base.specs.Joined.{sum_below};
 ghost use Rattle.jx_base.specs.Sound.{IsSound};
 ghost use Rattle.jx_codestream.specs.First.{tile_number};
 ghost use Rattle.jx_codestream.specs.InRange.{StreamInRange};
-ghost use Rattle.jx_show.specs.Facts.{comments_of_tile, count_fact, is_marked, lengths_of_tile, marked_in, stands_fact, total_facts, One};
+ghost use Rattle.jx_codestream.specs.Shapes.{tile_at};
+ghost use Rattle.jx_show.specs.Facts.{comments_of_tile, count_fact, is_marked, lengths_of_tile, marked_in, packed_of_tile, stands_fact, tiles_with_ppt, total_facts, One};
 ghost use Rattle.jx_show.specs.Stated.{text_of};
 
 use crate::bytes::all_bytes;
@@ -25,6 +26,7 @@ use std::alloc::Global;
 pub enum Mark {
     Plt,
     Plm,
+    Ppm,
     Tlm,
     Com,
 }
@@ -35,6 +37,7 @@ fn is_marked(mark: Mark, segment: &Segment) -> bool
     match mark {
         Mark::Plt => matches!(segment, Segment::Plt(_)),
         Mark::Plm => matches!(segment, Segment::Plm(_)),
+        Mark::Ppm => matches!(segment, Segment::Ppm { .. }),
         Mark::Tlm => matches!(segment, Segment::Tlm(_)),
         Mark::Com => matches!(segment, Segment::Com(_)),
     }
@@ -62,6 +65,19 @@ fn lengths_of_tile(stream: &Stream, tile: u16) -> u64
     marked_in(Mark::Plt, stream.tile(tile).header.as_slice())
 }
 
+/// 1 where the headers of a tile's packets stand apart from its packets, else 0.
+fn packed_of_tile(stream: &Stream, tile: u16) -> u128
+    requires range { StreamInRange stream.now }
+    requires tile { tile < tile_number stream.now.siz }
+    ensures value { result ≡ packed_of_tile (tile_at stream.now tile).heads }
+    ensures most { result ≤ 1 }
+{
+    match stream.tile(tile).heads.pieces() {
+        Some(_) => 1,
+        None => 0,
+    }
+}
+
 /// The comments in the headers of a tile's tile-parts.
 fn comments_of_tile(stream: &Stream, tile: u16) -> u128
     requires range { StreamInRange stream.now }
@@ -81,6 +97,21 @@ fn all_lengths(stream: &Stream) -> u128
     let mut count = 0;
     for tile in 0..stream.tile_count() {
         count += u128::from(lengths_of_tile(stream, tile));
+    }
+    count
+}
+
+/// The tiles that have PPT: none where the main header has PPM.
+fn tiles_with_ppt(stream: &Stream, ppm: u128) -> u128
+    requires { StreamInRange stream.now }
+    ensures { result ≡ tiles_with_ppt stream.now ppm }
+{
+    if ppm > 0 {
+        return 0;
+    }
+    let mut count = 0;
+    for tile in 0..stream.tile_count() {
+        count += packed_of_tile(stream, tile);
     }
     count
 }
@@ -128,6 +159,7 @@ pub(crate) fn push_totals(
     let segments = stream.main.as_slice();
     let notes = u128::from(marked_in(Mark::Com, segments));
     let plm = u128::from(marked_in(Mark::Plm, segments));
+    let ppm = u128::from(marked_in(Mark::Ppm, segments));
     let tlm = u128::from(marked_in(Mark::Tlm, segments));
     push_all(
         text,
@@ -138,6 +170,8 @@ pub(crate) fn push_totals(
             count_fact(Name::TileParts, parts_of_tile(stream, 0) as u128),
             stands_fact(Name::Plt, all_lengths(stream)),
             stands_fact(Name::Plm, plm),
+            stands_fact(Name::Ppm, ppm),
+            stands_fact(Name::Ppt, tiles_with_ppt(stream, ppm)),
             stands_fact(Name::Tlm, tlm),
             count_fact(Name::Comments, notes + all_comments(stream)),
             count_fact(Name::Bytes, all_bytes(blocks)),

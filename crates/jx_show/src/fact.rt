@@ -66,6 +66,10 @@ pub enum Name {
     Plt,
     /// Whether packet lengths stand in the main header (A.7.2).
     Plm,
+    /// Whether packed packet headers stand in the main header (A.7.4).
+    Ppm,
+    /// Whether packed packet headers stand in tile-parts' headers (A.7.5).
+    Ppt,
     /// Whether tile-part lengths stand in the main header (A.7.1).
     Tlm,
     /// How many comments there are (A.9.2).

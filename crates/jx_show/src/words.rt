@@ -43,6 +43,8 @@ pub(crate) fn name_text(name: Name) -> &'static str
         Name::TileParts => "tile-parts",
         Name::Plt => "PLT",
         Name::Plm => "PLM",
+        Name::Ppm => "PPM",
+        Name::Ppt => "PPT",
         Name::Tlm => "TLM",
         Name::Comments => "comments",
     }

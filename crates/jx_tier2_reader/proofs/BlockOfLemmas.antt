@@ -62,7 +62,7 @@ few_own b s t cuts left number layer h =
         let leaf : FromLeaf (geometry s t) f = all.0.leaf in
         let same : leaf_number (geometry s t) leaf.comp leaf.res leaf.precinct leaf.block ≡ number = leaf.number ∙ all.0.number in
         subst (λ (n : ℕ). in_layer layer n (founds_of (geometry s t) cuts) ≤ 164) same
-        (layer_few b s (geometry s t) layer leaf.comp leaf.res leaf.precinct leaf.block 0 (start s t) cuts left h.limits leaf.there leaf.inside
+        (layer_few b s (geometry s t) layer leaf.comp leaf.res leaf.precinct leaf.block 0 (start b s t) cuts left h.limits leaf.there leaf.inside
         (record { there = h.there; rise = h.rise; follow = start_follow s (geometry s t); are = h.are }))
 
 cut_own : (b : List ℕ) (s : Stream) (t : ℕ) (cuts : List Cut) (left : Left) (n : BlockName) → IsBegun b s t cuts left → HasBlock (geometry s t) n
@@ -73,8 +73,8 @@ cut_own b s t cuts left n h is layer =
     let number : ℕ = leaf_number g n.comp n.res leaf.precinct leaf.block in
     let fresh : State = fresh_precinct s g n.comp n.res leaf.precinct in
     let own : List PieceValue = pieces_in (own_founds number (founds_of g cuts)) in
-    let walk : Walk b s g 0 (start s t) cuts left = record { there = h.there; rise = h.rise; follow = start_follow s g; are = h.are } in
-    let over = cut_over b s g n.comp n.res leaf.precinct leaf.block 0 cuts (start s t) left fresh h.limits leaf.there leaf.inside walk (precinct_there s g n.comp n.res leaf.precinct leaf.there) layer in
+    let walk : Walk b s g 0 (start b s t) cuts left = record { there = h.there; rise = h.rise; follow = start_follow s g; are = h.are } in
+    let over = cut_over b s g n.comp n.res leaf.precinct leaf.block 0 cuts (start b s t) left fresh h.limits leaf.there leaf.inside walk (precinct_there s g n.comp n.res leaf.precinct leaf.there) layer in
     let none : (known_in fresh.bands leaf.block).passes ≡ 0 = ap (λ (k : Known). k.passes) (fresh_unknown (precinct_bands s g n.comp n.res leaf.precinct) leaf.block) in
     let first : (known_in fresh.bands leaf.block).passes + passes_below layer own ≡ passes_below layer own = omega arith in
     subst (λ (i : ℕ). map (λ (q : PieceValue). q.passes) (pieces_at layer (pieces_in (own_founds i (founds_of g cuts)))) ≡ cut (style_of s t n.comp) (passes_below layer (pieces_in (own_founds i (founds_of g cuts)))) (passes_at layer (pieces_in (own_founds i (founds_of g cuts))))) leaf.number

@@ -13,7 +13,9 @@ use Rattle.jx_codestream.specs.declared.Stream.{Stream}
 use Rattle.jx_codestream.specs.declared.Tile.{Tile}
 use Rattle.jx_codestream.specs.Tiles.{tile_of, tiles_of}
 use Rattle.jx_codestream.specs.First.{tile_number}
-use Rattle.jx_codestream.specs.Spells.{TilePart, all_bytes, head_bytes, part_bytes, part_of, placed, first_sot, Spells}
+use Rattle.jx_codestream.specs.declared.packed.PackedSegment.{PackedSegment}
+use Rattle.jx_codestream.specs.PackedHeaders.{after_share, data_in_order, share_of, shared_out, with_heads, with_shares}
+use Rattle.jx_codestream.specs.Spells.{TilePart, all_bytes, head_bytes, main_packed, part_bytes, part_of, placed, first_sot, Spells}
 use Rattle.jx_codestream.specs.Shapes.{no_tile, tile_at}
 use Rattle.jx_codestream.specs.Read.{IsRead}
 use Rattle.jx_tier2_reader.specs.InRange.{DataInRange}
@@ -67,18 +69,35 @@ together test comps at (p ∷ ps) =
     by false h = omega arith
 
 -- those of a tile
-tile_bodies : (main : List Segment) (parts : List PlacedPart) (tiles : List Tile) (n t : ℕ) → tiles ≡ tiles_of main parts n → t < n →
+pub tile_there : (main : List Segment) (parts : List PlacedPart) (tiles : List Tile) (n t : ℕ) → tiles ≡ tiles_of main parts n → t < n →
     get_or tiles t no_tile ≡ tile_of main parts t
-tile_bodies main parts tiles n t is lt =
+tile_there main parts tiles n t is lt =
     ap (λ (l : List Tile). get_or l t no_tile) is ∙ get_or-map-range_with_len (tile_of main parts) 0 n t t no_tile lt (let e : 0 + t ≡ t = omega arith in e)
 
 bodies_are : (main : List Segment) (parts : List PlacedPart) (t : ℕ) → (tile_of main parts t).bodies ≡ bodies_by (λ (p : PlacedPart). p.sot.tile == t) parts
 unfolding tile_of
 bodies_are main parts t = refl
 
-pub read_data : (b : List ℕ) (s : Stream) (t : ℕ) → IsRead b s → t < tile_number s.siz → DataInRange b (tile_at s t).bodies
-read_data b s t r lt =
-    let w : Spells b s = r.spelled in
+-- tile-parts with their shares of packed headers have the same data
+shared_bodies : (b : List ℕ) (t : ℕ) (pieces : List Body) (parts : List PlacedPart) → bodies_by (λ (p : PlacedPart). p.sot.tile == t) (shared_out b pieces parts) ≡ bodies_by (λ (p : PlacedPart). p.sot.tile == t) parts
+shared_bodies b t pieces [] = refl
+shared_bodies b t pieces (p ∷ parts) = by (p.sot.tile == t) (shared_bodies b t (after_share b pieces) parts)
+  where
+    rest : List PlacedPart
+    rest = filter (λ (q : PlacedPart). q.sot.tile == t) (shared_out b (after_share b pieces) parts)
+
+    by : (c : Bool) → map (λ (q : PlacedPart). q.body) rest ≡ bodies_by (λ (q : PlacedPart). q.sot.tile == t) parts
+        → map (λ (q : PlacedPart). q.body) (cond c (with_heads p (share_of b pieces) ∷ rest) rest) ≡ map (λ (q : PlacedPart). q.body) (cond c (p ∷ filter (λ (q : PlacedPart). q.sot.tile == t) parts) (filter (λ (q : PlacedPart). q.sot.tile == t) parts))
+    by true again = ap (λ (xs : List Body). p.body ∷ xs) again
+    by false again = again
+
+with_bodies : (b : List ℕ) (t : ℕ) (packed : List PackedSegment) (parts : List PlacedPart) → bodies_by (λ (p : PlacedPart). p.sot.tile == t) (with_shares b packed parts) ≡ bodies_by (λ (p : PlacedPart). p.sot.tile == t) parts
+with_bodies b t [] parts = refl
+with_bodies b t (p ∷ ps) parts = shared_bodies b t (data_in_order (p ∷ ps)) parts
+
+-- all tile-parts stand in the file
+pub file_long : (b : List ℕ) (s : Stream) → (w : Spells b s) → first_sot s.siz s.main + length (flat_map (part_bytes (length s.siz.comps)) w.parts) ≤ length b
+file_long b s w =
     let soc : List ℕ = spelling 1 segment.Soc in
     let siz : List ℕ = spelling 1 (segment.Siz s.siz) in
     let main : List ℕ = all_bytes (length s.siz.comps) s.main in
@@ -86,10 +105,18 @@ read_data b s t r lt =
     let rest : List ℕ = spelling 1 segment.Eoc ++ w.rest in
     let long : length b ≡ length (soc ++ (siz ++ (main ++ (bodies ++ rest)))) = ap length w.bytes in
     let le : length soc + length siz + length main + length bodies ≤ length (soc ++ (siz ++ (main ++ (bodies ++ rest)))) = between soc siz main bodies rest in
-    let within : first_sot s.siz s.main + length bodies ≤ length b = omega arith in
+    omega arith
+
+pub read_data : (b : List ℕ) (s : Stream) (t : ℕ) → IsRead b s → t < tile_number s.siz → DataInRange b (tile_at s t).bodies
+read_data b s t r lt =
+    let w : Spells b s = r.spelled in
+    let bodies : List ℕ = flat_map (part_bytes (length s.siz.comps)) w.parts in
+    let within : first_sot s.siz s.main + length bodies ≤ length b = file_long b s w in
     let all : List PlacedPart = placed (length s.siz.comps) (first_sot s.siz s.main) w.parts in
+    let shared : List PlacedPart = with_shares b (main_packed s.siz s.main) all in
     let test : PlacedPart → Bool = λ (p : PlacedPart). p.sot.tile == t in
-    let is : (tile_at s t).bodies ≡ bodies_by test all = ap (λ (x : Tile). x.bodies) (tile_bodies s.main all s.tiles (tile_number s.siz) t w.tiles lt) ∙ bodies_are s.main all t in
+    let is : (tile_at s t).bodies ≡ bodies_by test all =
+    ap (λ (x : Tile). x.bodies) (tile_there s.main shared s.tiles (tile_number s.siz) t w.tiles lt) ∙ bodies_are s.main shared t ∙ with_bodies b t (main_packed s.siz s.main) all in
     let sum : sum_by (λ (body : Body). body.length) (bodies_by test all) ≤ length bodies = together test (length s.siz.comps) (first_sot s.siz s.main) w.parts in
     subst (λ (l : List Body). DataInRange b l) (sym is) (record {
       inside = All-from_recursion (λ (body : Body). body.at + body.length ≤ length b) (bodies_by test all) (inside test (length s.siz.comps) (first_sot s.siz s.main) (length b) w.parts within);

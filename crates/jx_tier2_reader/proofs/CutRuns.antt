@@ -218,7 +218,7 @@ turned : (b : List ℕ) (s : Stream) (g : Geometry) (number j : ℕ) (old : Left
     → (t : IsTurn b g number old d next) → j < leaves g d.name.comp d.name.res d.name.precinct → Turned g (style_of s g.tile d.name.comp) d (leaf_number g d.name.comp d.name.res d.name.precinct j) j t.state
 turned b s g number j old d next h follow own t lt =
     let f = own_follows b s g number old d next follow own t in
-    let bytes : List ℕ = header_in (window b t.body) in
+    let bytes : List ℕ = header_in old.packed (window b t.body) in
     let leaf : ℕ = leaf_number g d.name.comp d.name.res d.name.precinct j in
     let inside : j < length (all_blocks t.state.bands) = subst (λ (n : ℕ). j < n) (sym f.count) lt in
     let passes : passes_list (pieces_in (own_founds leaf (founds_in g d))) ≡ map (λ (q : HeaderPart). q.passes) (own_parts j d.parts) =

@@ -26,18 +26,18 @@ use Rattle.jx_codestream.specs.declared.faults.StreamFault.{StreamFault}
 use Rattle.jx_codestream.specs.Read.{IsRead}
 use Rattle.jx_codestream.specs.Shapes.{geometry, layers_of, tile_at}
 use Rattle.jx_tile.specs.Totals.{totals_fault}
-use Rattle.jx_tier2_reader.specs.Data.{window, due, behind, end_of_data, sop_fault, header_in, front_length, parts_length, body_fault}
-use Rattle.jx_tier2_reader.specs.Cuts.{Cut, Left, IsCut, BreaksHeader, Breaks, IsTurn, AreCuts, names_of, number_of, Stops}
+use Rattle.jx_tier2_reader.specs.Data.{window, due, due_or, behind, packed_behind, sop_fault, header_in, front_length, parts_length, body_fault}
+use Rattle.jx_tier2_reader.specs.Cuts.{Cut, Left, IsCut, BreaksHeader, Breaks, IsTurn, AreCuts, BreaksDue, left_fault, names_of, number_of}
 use Rattle.jx_tier2_reader.specs.Blocks.{founds_of, blocks_of_tile}
 use Rattle.jx_tile.specs.Covered.{IsListOf, IsWhole}
-use Rattle.jx_tier2_reader.specs.Gathered.{IsCutUp, AreTileBlocks, BreaksTile, start}
+use Rattle.jx_tier2_reader.specs.Gathered.{IsCutUp, AreTileBlocks, BreaksTile, head_pieces, start}
 use Rattle.jx_tier2_reader.specs.Either.{HasBlocks, HasFault}
 use Rattle.jx_codestream.specs.InRange.{StreamInRange}
 use Rattle.jx_codestream.proofs.RangeLemmas.{read_in_range}
 use Rattle.jx_tier2_reader.proofs.ListLemmas.{few_components}
 use Rattle.jx_tier2_reader.proofs.PacketLemmas.{cut_made}
 use Rattle.jx_tier2_reader.proofs.TileLemmas.{cuts_on, names_on as names_more}
-use Rattle.jx_tier2_reader.proofs.TurnLemmas.{Precincts, Keeps, Listed, Known, listed, known_there, has_precinct, due_named}
+use Rattle.jx_tier2_reader.proofs.TurnLemmas.{Precincts, Keeps, AreFew, Listed, Known, listed, known_there, has_precinct, due_named}
 use Rattle.jx_tier2_reader.proofs.OnceLemmas.{Ready}
 use Rattle.jx_tier2_reader.proofs.ReadyLemmas.{ready}
 use Rattle.jx_tile.proofs.TotalLemmas.{geometry_fits}
@@ -105,49 +105,53 @@ header_or : (h : List ℕ) (at : ℕ) (k : State) → AreBands k.bands → Heade
 header_or h at k b = header_by h at k b (scan_header k (bits_of h).bits) refl
 
 -- ---- a packet
-abbrev PacketOr : List ℕ → ℕ → ℕ → State → PacketName → Type 0
-PacketOr w at number k p = ((c : Cut) × ((c.name ≡ p) × IsCut w number k c)) ⊎ ((f : StreamFault) × Breaks w at number k f)
+abbrev PacketOr : Option (List ℕ) → List ℕ → ℕ → ℕ → State → PacketName → Type 0
+PacketOr packed w at number k p = ((c : Cut) × ((c.name ≡ p) × IsCut packed w number k c)) ⊎ ((f : StreamFault) × Breaks packed w at number k f)
 
-abbrev cut_of : List ℕ → PacketName → List HeaderPart → ℕ → State → Cut
-cut_of w p parts used after = record {
+abbrev cut_of : Option (List ℕ) → List ℕ → PacketName → List HeaderPart → ℕ → State → Cut
+cut_of packed w p parts used after = record {
   name = p;
-  count = front_length w used + parts_length parts;
+  count = front_length packed w used + parts_length parts;
   used = used;
   parts = parts;
-  bytes = take (parts_length parts) (drop (front_length w used) w);
+  bytes = take (parts_length parts) (drop (front_length packed w used) w);
   after = after;
 }
 
-body_by : (w : List ℕ) (at number : ℕ) (k : State) (p : PacketName) (parts : List HeaderPart) (used : ℕ) (after : State) → sop_fault w at number ≡ None → IsPacket (header_in w) k parts used after
-    → (o : Option StreamFault) → body_fault w at used parts ≡ o → PacketOr w at number k p
-body_by w at number k p parts used after sop header None body = inl (cut_of w p parts used after, (refl, cut_made w at number k (cut_of w p parts used after) sop header body refl refl))
-body_by w at number k p parts used after sop header (Some f) body = inr (f, inr (sop, inr (record { parts = parts; used = used; after = after; header = header; body = body })))
+body_by : (packed : Option (List ℕ)) (w : List ℕ) (at number : ℕ) (k : State) (p : PacketName) (parts : List HeaderPart) (used : ℕ) (after : State) → sop_fault w at number ≡ None
+    → IsPacket (header_in packed w) k parts used after → (o : Option StreamFault) → body_fault packed w at used parts ≡ o → PacketOr packed w at number k p
+body_by packed w at number k p parts used after sop header None body =
+    inl (cut_of packed w p parts used after, (refl, cut_made packed w at number k (cut_of packed w p parts used after) sop header body refl refl))
+body_by packed w at number k p parts used after sop header (Some f) body = inr (f, inr (sop, inr (record { parts = parts; used = used; after = after; header = header; body = body })))
 
-sop_by : (w : List ℕ) (at number : ℕ) (k : State) (p : PacketName) → AreBands k.bands → (o : Option StreamFault) → sop_fault w at number ≡ o → PacketOr w at number k p
-sop_by w at number k p b (Some f) sop = inr (f, inl sop)
-sop_by w at number k p b None sop = elim (header_or (header_in w) at k b) [
-  | inl stands ↦ body_by w at number k p stands.0 stands.1.0 stands.1.1.0 sop stands.1.1.1 (body_fault w at stands.1.0 stands.0) refl
+sop_by : (packed : Option (List ℕ)) (w : List ℕ) (at number : ℕ) (k : State) (p : PacketName) → AreBands k.bands → (o : Option StreamFault) → sop_fault w at number ≡ o → PacketOr packed w at number k p
+sop_by packed w at number k p b (Some f) sop = inr (f, inl sop)
+sop_by packed w at number k p b None sop = elim (header_or (header_in packed w) at k b) [
+  | inl stands ↦ body_by packed w at number k p stands.0 stands.1.0 stands.1.1.0 sop stands.1.1.1 (body_fault packed w at stands.1.0 stands.0) refl
   | inr broken ↦ inr (broken.0, inr (sop, inl broken.1))
 ]
 
-packet_or : (w : List ℕ) (at number : ℕ) (k : State) (p : PacketName) → AreBands k.bands → PacketOr w at number k p
-packet_or w at number k p b = sop_by w at number k p b (sop_fault w at number) refl
+packet_or : (packed : Option (List ℕ)) (w : List ℕ) (at number : ℕ) (k : State) (p : PacketName) → AreBands k.bands → PacketOr packed w at number k p
+packet_or packed w at number k p b = sop_by packed w at number k p b (sop_fault w at number) refl
 
 -- ---- the packet that is due
-abbrev TurnOr : List ℕ → Geometry → ℕ → ℕ → Left → PacketName → List PacketName → Type 0
-TurnOr b g end number left p rest =
-    ((c : Cut) × ((new : Left) × ((c.name ≡ p) × IsTurn b g number left c new))) ⊎ ((f : StreamFault) × Stops b g end number left (p ∷ rest) f)
+abbrev TurnOr : List ℕ → Geometry → ℕ → Left → PacketName → Type 0
+TurnOr b g number left p = ((c : Cut) × ((new : Left) × ((c.name ≡ p) × IsTurn b g number left c new))) ⊎ ((f : StreamFault) × BreaksDue b g number left p f)
 
-turn_by : (b : List ℕ) (g : Geometry) (end number : ℕ) (left : Left) (p : PacketName) (rest : List PacketName) (k : State) → AreBands k.bands → slice_get left.states (number_of g p) ≡ Some k
-    → (bodies : List Body) → due left.bodies ≡ bodies → TurnOr b g end number left p rest
-turn_by b g end number left p rest k bands found [] first = inr (fault.Rule 26 end, inl (first, refl))
-turn_by b g end number left p rest k bands found (body ∷ later) first = elim (packet_or (window b body) body.at number k p bands) [
+turn_at : (b : List ℕ) (g : Geometry) (number : ℕ) (left : Left) (p : PacketName) (k : State) → AreBands k.bands → slice_get left.states (number_of g p) ≡ Some k
+    → (body : Body) (later : List Body) → due_or left.end (due left.bodies) ≡ body ∷ later → TurnOr b g number left p
+turn_at b g number left p k bands found body later first = elim (packet_or left.packed (window b body) body.at number k p bands) [
   | inl cut ↦
       let c : Cut = cut.0 in
       inl (
         c,
         (
-          record { bodies = behind body c.count ∷ later; states = set left.states (number_of g c.name) c.after },
+          record {
+            bodies = behind body c.count ∷ later;
+            end = left.end;
+            packed = packed_behind left.packed c.used;
+            states = set left.states (number_of g c.name) c.after;
+          },
           (
             cut.1.0,
             record {
@@ -162,8 +166,13 @@ turn_by b g end number left p rest k bands found (body ∷ later) first = elim (
           ),
         ),
       )
-  | inr broken ↦ inr (broken.0, inr (record { body = body; later = later; due_is = first; state = k; known = found; breaks = broken.1 }))
+  | inr broken ↦ inr (broken.0, record { body = body; later = later; due_is = first; state = k; known = found; breaks = broken.1 })
 ]
+
+turn_by : (b : List ℕ) (g : Geometry) (number : ℕ) (left : Left) (p : PacketName) (k : State) → AreBands k.bands → slice_get left.states (number_of g p) ≡ Some k
+    → (bodies : List Body) → due left.bodies ≡ bodies → TurnOr b g number left p
+turn_by b g number left p k bands found [] first = turn_at b g number left p k bands found (record { at = left.end; length = 0 }) [] (ap (due_or left.end) first)
+turn_by b g number left p k bands found (body ∷ later) first = turn_at b g number left p k bands found body later (ap (due_or left.end) first)
 
 -- ---- a tile
 abbrev TileOr : List ℕ → Stream → ℕ → Type 0
@@ -173,31 +182,31 @@ TileOr b s t = ((cuts : List Cut) × IsCutUp b s t cuts) ⊎ ((f : StreamFault) 
 record Reads (b : List ℕ) (s : Stream) (t : ℕ) (list : List PacketName) : Type 0 where
   pub places : Precincts s (geometry s t)
   pub keeps : Keeps b
+  pub few : AreFew b (start b s t).packed
   pub listed : Listed (geometry s t) (layers_of s t) list
   pub order : IsListOf s t list
 
-end_by : (b : List ℕ) (s : Stream) (t : ℕ) (cuts : List Cut) (left : Left) → IsListOf s t (names_of cuts ++ []) → AreCuts b (geometry s t) 0 (start s t) cuts left
-    → (bodies : List Body) → due left.bodies ≡ bodies → TileOr b s t
-end_by b s t cuts left order are [] first = inl (cuts, record { order = subst (IsListOf s t) (append-nil (names_of cuts)) order; end = left; are = are; none_left = first })
-end_by b s t cuts left order are (body ∷ later) first =
-    inr (fault.Rule 31 body.at, record { cuts = cuts; rest = []; order = order; left = left; are = are; stops = record { body = body; later = later; due_is = first; fault_is = refl } })
+end_by : (b : List ℕ) (s : Stream) (t : ℕ) (cuts : List Cut) (left : Left) → IsListOf s t (names_of cuts ++ []) → AreCuts b (geometry s t) 0 (start b s t) cuts left
+    → (o : Option StreamFault) → left_fault (head_pieces s t) left ≡ o → TileOr b s t
+end_by b s t cuts left order are None over = inl (cuts, record { order = subst (IsListOf s t) (append-nil (names_of cuts)) order; end = left; are = are; none_left = over })
+end_by b s t cuts left order are (Some f) over = inr (f, record { cuts = cuts; rest = []; order = order; left = left; are = are; stops = over })
 
 tile_from : (b : List ℕ) (s : Stream) (t : ℕ) (list rest : List PacketName) (cuts : List Cut) (left : Left) → Reads b s t list → list ≡ names_of cuts ++ rest
-    → AreCuts b (geometry s t) 0 (start s t) cuts left → TileOr b s t
-tile_from b s t list [] cuts left r e are = end_by b s t cuts left (subst (IsListOf s t) e r.order) are (due left.bodies) refl
+    → AreCuts b (geometry s t) 0 (start b s t) cuts left → TileOr b s t
+tile_from b s t list [] cuts left r e are = end_by b s t cuts left (subst (IsListOf s t) e r.order) are (left_fault (head_pieces s t) left) refl
 tile_from b s t list (p ∷ rest) cuts left r e are =
     let g : Geometry = geometry s t in
     let layers : ℕ = layers_of s t in
-    let all = known_there b s t list cuts (p ∷ rest) left r.places r.keeps r.listed e are in
+    let all = known_there b s t list cuts (p ∷ rest) left r.places r.keeps r.listed e r.few are in
     let k : Known s g layers (names_of cuts) left.states p.comp p.res p.precinct =
     all p.comp p.res p.precinct (has_precinct g layers p (due_named g layers list (names_of cuts) rest p r.listed e)) in
     let count : 0 + length cuts ≡ length cuts = omega arith in
-    elim (turn_by b g (end_of_data (tile_at s t).bodies) (0 + length cuts) left p rest k.state k.is.bands k.turned.known (due left.bodies) refl) [
+    elim (turn_by b g (0 + length cuts) left p k.state k.is.bands k.turned.known (due left.bodies) refl) [
       | inl turn ↦
           let c : Cut = turn.0 in
           let next : list ≡ names_of (cuts ++ c ∷ []) ++ rest =
           e ∙ ap (λ (q : PacketName). names_of cuts ++ (q ∷ rest)) (sym turn.1.1.0) ∙ sym (push_on (names_of cuts) rest c.name) ∙ ap (λ (xs : List PacketName). xs ++ rest) (sym (names_more cuts c)) in
-          tile_from b s t list rest (cuts ++ c ∷ []) turn.1.0 r next (cuts_on b g 0 (start s t) left turn.1.0 cuts c are turn.1.1.1)
+          tile_from b s t list rest (cuts ++ c ∷ []) turn.1.0 r next (cuts_on b g 0 (start b s t) left turn.1.0 cuts c are turn.1.1.1)
       | inr stops ↦ inr (
         stops.0,
         record {
@@ -206,14 +215,14 @@ tile_from b s t list (p ∷ rest) cuts left r e are =
           order = subst (IsListOf s t) e r.order;
           left = left;
           are = are;
-          stops = subst (λ (n : ℕ). Stops b g (end_of_data (tile_at s t).bodies) n left (p ∷ rest) stops.0) count stops.1;
+          stops = subst (λ (n : ℕ). BreaksDue b g n left p stops.0) count stops.1;
         },
       )
     ]
 
-pub tile_or : (b : List ℕ) (s : Stream) (t : ℕ) (list : List PacketName) → Precincts s (geometry s t) → Keeps b → IsListOf s t list → IsWhole s t → TileOr b s t
-tile_or b s t list places keeps order whole =
-    tile_from b s t list list [] (start s t) (record { places = places; keeps = keeps; listed = listed s t list order whole; order = order }) refl refl
+pub tile_or : (b : List ℕ) (s : Stream) (t : ℕ) (list : List PacketName) → Precincts s (geometry s t) → Keeps b → AreFew b (start b s t).packed → IsListOf s t list → IsWhole s t → TileOr b s t
+tile_or b s t list places keeps few order whole =
+    tile_from b s t list list [] (start b s t) (record { places = places; keeps = keeps; few = few; listed = listed s t list order whole; order = order }) refl refl
 
 -- ---- all tiles
 abbrev TilesOr : List ℕ → Stream → ℕ → Type 0
@@ -259,7 +268,7 @@ tile_is b s n t cuts (inr ge) inside = absurd (omega arith)
 data_or : (b : List ℕ) (s : Stream) → Ready b s → totals_fault s ≡ None → ((t : ℕ) → t < tile_number s.siz → HasList s t) → ((t : ℕ) → t < tile_number s.siz → IsWhole s t) → DataOr b s
 data_or b s r none lists whole =
     let n : ℕ = tile_number s.siz in
-    elim (tiles_or b s n (λ t lt. (let list = lists t lt in tile_or b s t list.0 (r.places t lt) r.keeps list.1 (whole t lt)))) [
+    elim (tiles_or b s n (λ t lt. (let list = lists t lt in tile_or b s t list.0 (r.places t lt) r.keeps (r.few t lt) list.1 (whole t lt)))) [
       | inl all ↦
           let tiles : ℕ → List Block = λ t. tile_with b s n t (all t) (cases_lt t n) in
           inl (joined tiles 0 n, record { whole = whole; tiles = tiles; are = λ t lt. tile_is b s n t (all t) (cases_lt t n) lt; blocks_are = refl })

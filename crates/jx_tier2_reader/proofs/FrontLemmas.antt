@@ -141,7 +141,7 @@ no_marks at (p ∷ parts) bytes rest clear few =
 -- ---- SOP
 pub record Front (c : Bool) (number : ℕ) (tail w : List ℕ) : Type 0 where
   pub fault : sop_fault w 0 number ≡ None
-  pub header : header_in w ≡ tail
+  pub header : header_in None w ≡ tail
   pub length_is : sop_length w ≡ length {A = ℕ} (cond c (sop_bytes number) [])
 
 two_bytes : (number : ℕ) → (number_at (sop_bytes number) 4 == number % 65536) ≡ true
@@ -162,20 +162,20 @@ eph_is false tail none = rw none refl
 
 -- ---- the coded bytes d behind a SOP a, a header h and an EPH e
 pub record Coded (w d : List ℕ) (used : ℕ) (parts : List HeaderPart) : Type 0 where
-  pub none : body_fault w 0 used parts ≡ None
-  pub bytes : d ≡ take (parts_length parts) (drop (front_length w used) w)
+  pub none : body_fault None w 0 used parts ≡ None
+  pub bytes : d ≡ take (parts_length parts) (drop (front_length None w used) w)
 
-coded_is : (a h e d rest w : List ℕ) (used : ℕ) (parts : List HeaderPart) → w ≡ (a ++ (h ++ e)) ++ (d ++ rest) → front_length w used ≡ length (a ++ (h ++ e)) → length d ≡ parts_length parts
+coded_is : (a h e d rest w : List ℕ) (used : ℕ) (parts : List HeaderPart) → w ≡ (a ++ (h ++ e)) ++ (d ++ rest) → front_length None w used ≡ length (a ++ (h ++ e)) → length d ≡ parts_length parts
     → AreClear parts d → Coded w d used parts
 unfolding body_fault
 coded_is a h e d rest w used parts is front long clear =
-    let behind : drop (front_length w used) w ≡ d ++ rest = ap (λ (n : ℕ). drop n w) front ∙ ap (drop (length (a ++ (h ++ e)))) is ∙ drop-append_seam (a ++ (h ++ e)) (d ++ rest) in
+    let behind : drop (front_length None w used) w ≡ d ++ rest = ap (λ (n : ℕ). drop n w) front ∙ ap (drop (length (a ++ (h ++ e)))) is ∙ drop-append_seam (a ++ (h ++ e)) (d ++ rest) in
     let all : length w ≡ length (a ++ (h ++ e)) + length (d ++ rest) = ap length is ∙ length-append (a ++ (h ++ e)) (d ++ rest) in
     let rear : length (d ++ rest) ≡ length d + length rest = length-append d rest in
-    let fits : nat_lt (length w) (front_length w used + parts_length parts) ≡ false =
-    (let le : front_length w used + parts_length parts ≤ length w = omega arith in grind (arith, nat_tests)) in
-    let marks : marks_fault (0 + front_length w used) (drop (front_length w used) w) parts ≡ None =
-    ap (λ (x : List ℕ). marks_fault (0 + front_length w used) x parts) behind ∙ no_marks (0 + front_length w used) parts d rest clear (omega arith) in
+    let fits : nat_lt (length w) (front_length None w used + parts_length parts) ≡ false =
+    (let le : front_length None w used + parts_length parts ≤ length w = omega arith in grind (arith, nat_tests)) in
+    let marks : marks_fault (0 + front_length None w used) (drop (front_length None w used) w) parts ≡ None =
+    ap (λ (x : List ℕ). marks_fault (0 + front_length None w used) x parts) behind ∙ no_marks (0 + front_length None w used) parts d rest clear (omega arith) in
     record {
       none = rw (fits, marks) refl;
       bytes = sym (ap (take (parts_length parts)) behind ∙ ap (λ (n : ℕ). take n (d ++ rest)) (sym long) ∙ take-append_seam d rest);
@@ -208,7 +208,7 @@ packet_some n x s =
     omega (arith, length-append (cond x.sop (sop_bytes n) []) (x.header ++ tail), length-append x.header tail)
 
 pub cut_stands : (number : ℕ) (p : PacketName) (x : WrittenPacket) (k after : State) (rest : List ℕ) → ((more : List ℕ) → IsPacket (x.header ++ more) k x.parts (length x.header) after)
-    → length x.bytes ≡ parts_length x.parts → AreClear x.parts x.bytes → begins_with rest EPH ≡ false → IsCut (packet_bytes number x ++ rest) number k (cut_with p x after)
+    → length x.bytes ≡ parts_length x.parts → AreClear x.parts x.bytes → begins_with rest EPH ≡ false → IsCut None (packet_bytes number x ++ rest) number k (cut_with p x after)
 unfolding front_length
 cut_stands number p x k after rest stands long clear none =
     let w : List ℕ = packet_bytes number x ++ rest in
@@ -220,10 +220,10 @@ cut_stands number p x k after rest stands long clear none =
     let whole : w ≡ a ++ tail = by_marks a x.header e x.bytes rest in
     let fronts : Front x.sop number tail w =
     subst (λ (l : List ℕ). Front x.sop number tail l) (sym whole) (front_is x.sop number tail (header_no_mark x.header (e ++ behind) SOP starts (omega arith))) in
-    let after_header : drop (length x.header) (header_in w) ≡ e ++ behind = ap (drop (length x.header)) fronts.header ∙ drop-append_seam x.header (e ++ behind) in
-    let eph : eph_length (drop (length x.header) (header_in w)) ≡ length e =
+    let after_header : drop (length x.header) (header_in None w) ≡ e ++ behind = ap (drop (length x.header)) fronts.header ∙ drop-append_seam x.header (e ++ behind) in
+    let eph : eph_length (drop (length x.header) (header_in None w)) ≡ length e =
     ap (λ (l : List ℕ). eph_length l) after_header ∙ eph_is x.eph behind (piece_no_mark x.bytes rest (pieces_start x.parts x.bytes clear long) none) in
-    let front : front_length w (length x.header) ≡ length (a ++ (x.header ++ e)) =
+    let front : front_length None w (length x.header) ≡ length (a ++ (x.header ++ e)) =
     omega (arith, fronts.length_is, eph, length-append a (x.header ++ e), length-append x.header e) in
     let coded : Coded w x.bytes (length x.header) x.parts = coded_is a x.header e x.bytes rest w (length x.header) x.parts (regroup a x.header e x.bytes rest) front long clear in
     let size : length (packet_bytes number x) ≡ length (a ++ (x.header ++ e)) + length x.bytes =

@@ -68,7 +68,7 @@ own_layer : (b : List ℕ) (s : Stream) (g : Geometry) (layer j number : ℕ) (o
     → AllFollow s g old.states → IsTurn b g number old d next → j < leaves g d.name.comp d.name.res d.name.precinct
     → in_layer layer (leaf_number g d.name.comp d.name.res d.name.precinct j) (founds_in g d) ≤ 164
 own_layer b s g layer j number old d next h own follow turn lt =
-    let few : passes_of (own_parts j d.parts) ≤ 164 = packet_few (header_in (window b turn.body)) turn.state d.parts d.used d.after turn.cut.header j in
+    let few : passes_of (own_parts j d.parts) ≤ 164 = packet_few (header_in old.packed (window b turn.body)) turn.state d.parts d.used d.after turn.cut.header j in
     let less : in_layer layer (leaf_number g d.name.comp d.name.res d.name.precinct j) (founds_in g d) ≤ passes_of (own_parts j d.parts) =
     founds_few g d.name d.after j layer d.bytes d.parts (parts_apart g d.name j d.parts h own lt (turn_inside b s g number old d next follow own turn)) in
     omega arith

@@ -27,6 +27,8 @@ pub mod BlockOfLemmas
 mod LeafLemmas
 pub mod CarryLemmas
 mod KeptLemmas
+mod HeadRanges
+pub mod HeadLemmas
 mod EitherLemmas
 pub mod FillLemmas
 pub mod PlannedLemmas
@@ -38,3 +40,5 @@ pub mod ListedLemmas
 pub mod CoverEither
 mod PartCuts
 pub mod AnotherLemmas
+pub mod InPlaceLemmas
+pub mod InPlaceTiles

@@ -1,11 +1,12 @@
 -- What the rules on coded bytes say of them, where none is violated.
 use Rattle.std.proofs.Common.{◌≡◌, ℕ, suc, ◌+◌, ◌<◌, ◌≤◌, ◌==◌, ◌&&◌, ◌||◌, nat_lt, Bool, false, List, [], ◌∷◌, length, take, drop, refl, sym, ap, ◌∙◌, subst, arith, Some, None, inl, inr, ◌⊎◌, Option, get_or, find, slice_index}
 use Rattle.std.specs.List.{range_with_len}
+use Rattle.std.specs.Option.{option_or}
 use Rattle.std.proofs.lemmas.Bool.{eq-eqb, and_cases, or_parts, ltb-false, both_ways, true≢false}
 use Rattle.jx_base.specs.Markers.{HasNoMarker}
 use Rattle.jx_packet_header.specs.declared.HeaderPart.{HeaderPart}
 use Rattle.jx_codestream.specs.Faults.{broken}
-use Rattle.jx_tier2_reader.specs.Data.{front_length, parts_length, is_marked, first_mark, rule_30, marks_fault, body_fault}
+use Rattle.jx_tier2_reader.specs.Data.{front_length, eph_fault, parts_length, is_marked, first_mark, rule_30, marks_fault, body_fault}
 use Rattle.std.proofs.lemmas.List.FromFn.{get_or-range_with_len, length-range_with_len}
 use Rattle.jx_base.proofs.Lists.{find_none}
 use Rattle.jx_codestream.proofs.FaultLemmas.{none_later as or_later, none_first as or_first, broken_none}
@@ -69,14 +70,17 @@ marks_later at bytes p parts h = or_later (rule_30 at (first_mark (take p.length
 
 -- ---- rules 28 and 30 at a packet
 
-pub body_fits : (w : List ℕ) (at used : ℕ) (parts : List HeaderPart) → body_fault w at used parts ≡ None → front_length w used + parts_length parts ≤ length w
+pub body_fits : (packed : Option (List ℕ)) (w : List ℕ) (at used : ℕ) (parts : List HeaderPart) → body_fault packed w at used parts ≡ None → front_length packed w used + parts_length parts ≤ length w
 unfolding body_fault
-body_fits w at used parts h =
-    let b : Bool = nat_lt (length w) (front_length w used + parts_length parts) in
-    ltb-false (length w) (front_length w used + parts_length parts)
-    (broken_none 28 at b (or_first (broken 28 at b) (marks_fault (at + front_length w used) (drop (front_length w used) w) parts) h))
+body_fits packed w at used parts h =
+    let n : ℕ = front_length packed w used in
+    let b : Bool = nat_lt (length w) (n + parts_length parts) in
+    let later = or_later (eph_fault packed at used) (option_or (broken 28 at b) (marks_fault (at + n) (drop n w) parts)) h in
+    ltb-false (length w) (n + parts_length parts) (broken_none 28 at b (or_first (broken 28 at b) (marks_fault (at + n) (drop n w) parts) later))
 
-pub body_marks : (w : List ℕ) (at used : ℕ) (parts : List HeaderPart) → body_fault w at used parts ≡ None → marks_fault (at + front_length w used) (drop (front_length w used) w) parts ≡ None
+pub body_marks : (packed : Option (List ℕ)) (w : List ℕ) (at used : ℕ) (parts : List HeaderPart) → body_fault packed w at used parts ≡ None → marks_fault (at + front_length packed w used) (drop (front_length packed w used) w) parts ≡ None
 unfolding body_fault
-body_marks w at used parts h =
-    or_later (broken 28 at (nat_lt (length w) (front_length w used + parts_length parts))) (marks_fault (at + front_length w used) (drop (front_length w used) w) parts) h
+body_marks packed w at used parts h =
+    let n : ℕ = front_length packed w used in
+    let first = broken 28 at (nat_lt (length w) (n + parts_length parts)) in
+    or_later first (marks_fault (at + n) (drop n w) parts) (or_later (eph_fault packed at used) (option_or first (marks_fault (at + n) (drop n w) parts)) h)

@@ -20,12 +20,12 @@ use Rattle.jx_codestream.specs.declared.faults.StreamFault.{StreamFault}
 use Rattle.jx_codestream.specs.Faults.{broken}
 use Rattle.jx_codestream.specs.Shapes.{geometry, layers_of, tile_at}
 use Rattle.jx_tile.specs.Totals.{totals_fault}
-use Rattle.jx_tier2_reader.specs.Data.{window, due, behind, end_of_data, sop_fault, header_in, first_mark, rule_30, marks_fault, body_fault, front_length, parts_length}
-use Rattle.jx_tier2_reader.specs.Cuts.{Cut, IsCut, BreaksHeader, BreaksBody, Breaks, Left, IsTurn, AreCuts, names_of, number_of, BreaksDue, IsLeftOver, Stops}
+use Rattle.jx_tier2_reader.specs.Data.{window, due, behind, sop_fault, eph_fault, header_in, first_mark, rule_30, marks_fault, body_fault, front_length, packed_behind, parts_length}
+use Rattle.jx_tier2_reader.specs.Cuts.{Cut, IsCut, BreaksHeader, BreaksBody, Breaks, Left, IsTurn, AreCuts, names_of, number_of, BreaksDue, left_fault, Stops}
 use Rattle.jx_tier2_reader.specs.Blocks.{founds_of, blocks_of_tile}
 use Rattle.jx_tile.specs.Covered.{IsListOf, IsWhole, IsUncovered}
-use Rattle.jx_tier2_reader.specs.Gathered.{IsCutUp, AreTileBlocks, IsGathered, BreaksTile, BreaksData, IsBroken, start}
-use Rattle.jx_tier2_reader.proofs.TurnLemmas.{Precincts, Keeps, Listed, listed, AllKnown, AreInTurn, are_in_turn, known_there, has_precinct, due_named}
+use Rattle.jx_tier2_reader.specs.Gathered.{IsCutUp, AreTileBlocks, IsGathered, BreaksTile, BreaksData, IsBroken, head_pieces, start}
+use Rattle.jx_tier2_reader.proofs.TurnLemmas.{Precincts, Keeps, AreFew, Listed, listed, AllKnown, AreInTurn, are_in_turn, known_there, has_precinct, due_named}
 use Rattle.jx_base.proofs.Joined.{joined_same}
 use Rattle.jx_base.proofs.Lists.{some_none, head_same, tail_same}
 use Rattle.jx_codestream.specs.declared.faults.StreamFault.TheVariants as fault
@@ -55,11 +55,17 @@ first_clear : (m a b : ℕ) (v : Bool) (x y : Option StreamFault) (f : StreamFau
 first_clear m a b true x y f rest h k = some_none (fault.Rule m b) k
 first_clear m a b false x y f rest h k = rest h k
 
-pub body_clear : (w : List ℕ) (a b used : ℕ) (parts : List HeaderPart) (f : StreamFault) → body_fault w a used parts ≡ Some f → body_fault w b used parts ≡ None → ⊥
+eph_clear : (packed : Option (List ℕ)) (a b used : ℕ) (x y : Option StreamFault) (f : StreamFault) → (x ≡ Some f → y ≡ None → ⊥)
+    → option_or (eph_fault packed a used) x ≡ Some f → option_or (eph_fault packed b used) y ≡ None → ⊥
+eph_clear None a b used x y f rest h k = rest h k
+eph_clear (Some packed) a b used x y f rest h k = first_clear 26 a b _ x y f rest h k
+
+pub body_clear : (packed : Option (List ℕ)) (w : List ℕ) (a b used : ℕ) (parts : List HeaderPart) (f : StreamFault) → body_fault packed w a used parts ≡ Some f → body_fault packed w b used parts ≡ None → ⊥
 unfolding body_fault
-body_clear w a b used parts f h k =
-    first_clear 28 a b _ (marks_fault (a + front_length w used) (drop (front_length w used) w) parts) (marks_fault (b + front_length w used) (drop (front_length w used) w) parts) f
-    (marks_clear (a + front_length w used) (b + front_length w used) (drop (front_length w used) w) parts f) h k
+body_clear packed w a b used parts f h k =
+    let n : ℕ = front_length packed w used in
+    eph_clear packed a b used _ _ f
+    (first_clear 28 a b _ (marks_fault (a + n) (drop n w) parts) (marks_fault (b + n) (drop n w) parts) f (marks_clear (a + n) (b + n) (drop n w) parts f)) h k
 
 -- ---- a packet
 cut_of : PacketName → ℕ → ℕ → List HeaderPart → List ℕ → State → Cut
@@ -71,32 +77,32 @@ same_cut c d en ec eu ep eb ea =
     let e : cut_of c.name c.count c.used c.parts c.bytes c.after ≡ cut_of d.name d.count d.used d.parts d.bytes d.after = cc in
     e
 
-pub cut_once : (w : List ℕ) (number : ℕ) (k : State) (c d : Cut) → IsState k → c.name ≡ d.name → IsCut w number k c → IsCut w number k d → c ≡ d
-cut_once w number k c d is en x y =
-    let one = one_header (header_in w) k c.parts d.parts c.used d.used c.after d.after is.bands x.header y.header in
+pub cut_once : (packed : Option (List ℕ)) (w : List ℕ) (number : ℕ) (k : State) (c d : Cut) → IsState k → c.name ≡ d.name → IsCut packed w number k c → IsCut packed w number k d → c ≡ d
+cut_once packed w number k c d is en x y =
+    let one = one_header (header_in packed w) k c.parts d.parts c.used d.used c.after d.after is.bands x.header y.header in
     let ep : c.parts ≡ d.parts = one.parts_are in
     let eu : c.used ≡ d.used = one.used_is in
-    let front : front_length w c.used ≡ front_length w d.used = ap (front_length w) eu in
+    let front : front_length packed w c.used ≡ front_length packed w d.used = ap (front_length packed w) eu in
     let long : parts_length c.parts ≡ parts_length d.parts = ap (λ (ps : List HeaderPart). parts_length ps) ep in
-    let ec : c.count ≡ d.count = x.count_is ∙ ap (λ (m : ℕ). m + parts_length c.parts) front ∙ ap (λ (m : ℕ). front_length w d.used + m) long ∙ sym y.count_is in
+    let ec : c.count ≡ d.count = x.count_is ∙ ap (λ (m : ℕ). m + parts_length c.parts) front ∙ ap (λ (m : ℕ). front_length packed w d.used + m) long ∙ sym y.count_is in
     let eb : c.bytes ≡ d.bytes =
-    x.bytes_are ∙ ap (λ (m : ℕ). take (parts_length c.parts) (drop m w)) front ∙ ap (λ (m : ℕ). take m (drop (front_length w d.used) w)) long ∙ sym y.bytes_are in
+    x.bytes_are ∙ ap (λ (m : ℕ). take (parts_length c.parts) (drop m w)) front ∙ ap (λ (m : ℕ). take m (drop (front_length packed w d.used) w)) long ∙ sym y.bytes_are in
     same_cut c d en ec eu ep eb one.after_is
 
 -- a rule is violated in it, or it is cut off
-pub breaks_not_cut : (w : List ℕ) (at number : ℕ) (k : State) (f : StreamFault) (c : Cut) → IsState k → Breaks w at number k f → IsCut w number k c → ⊥
-breaks_not_cut w at number k f c is x cut = elim x [
+pub breaks_not_cut : (packed : Option (List ℕ)) (w : List ℕ) (at number : ℕ) (k : State) (f : StreamFault) (c : Cut) → IsState k → Breaks packed w at number k f → IsCut packed w number k c → ⊥
+breaks_not_cut packed w at number k f c is x cut = elim x [
   | inl sop ↦ sop_clear w at 0 number f sop cut.sop
   | inr rest ↦ elim rest.1 [
     | inl header ↦ elim header [
-      | inl planes ↦ planes_or_packet (header_in w) k c.parts c.used c.after is.bands planes.0 cut.header
+      | inl planes ↦ planes_or_packet (header_in packed w) k c.parts c.used c.after is.bands planes.0 cut.header
       | inr bits ↦ bits.1 c.parts c.used c.after cut.header
     ]
     | inr body ↦
-        let one = one_header (header_in w) k body.parts c.parts body.used c.used body.after c.after is.bands body.header cut.header in
-        let P : ℕ → Type 0 = λ u. body_fault w at u body.parts ≡ Some f in
-        let Q : List HeaderPart → Type 0 = λ ps. body_fault w at c.used ps ≡ Some f in
-        body_clear w at 0 c.used c.parts f (subst Q one.parts_are (subst P one.used_is body.body)) cut.body
+        let one = one_header (header_in packed w) k body.parts c.parts body.used c.used body.after c.after is.bands body.header cut.header in
+        let P : ℕ → Type 0 = λ u. body_fault packed w at u body.parts ≡ Some f in
+        let Q : List HeaderPart → Type 0 = λ ps. body_fault packed w at c.used ps ≡ Some f in
+        body_clear packed w at 0 c.used c.parts f (subst Q one.parts_are (subst P one.used_is body.body)) cut.body
   ]
 ]
 
@@ -107,27 +113,27 @@ header_breaks_once h at k f g x y = elim x [
   | inr p ↦ elim y [ inl q ↦ absurd (p.0 q.0) | inr q ↦ p.2 ∙ sym q.2 ]
 ]
 
-header_or_body : (w : List ℕ) (at : ℕ) (k : State) (f g : StreamFault) → IsState k → BreaksHeader (header_in w) at k f → BreaksBody w at k g → ⊥
-header_or_body w at k f g is x y = elim x [
-  | inl p ↦ planes_or_packet (header_in w) k y.parts y.used y.after is.bands p.0 y.header
+header_or_body : (packed : Option (List ℕ)) (w : List ℕ) (at : ℕ) (k : State) (f g : StreamFault) → IsState k → BreaksHeader (header_in packed w) at k f → BreaksBody packed w at k g → ⊥
+header_or_body packed w at k f g is x y = elim x [
+  | inl p ↦ planes_or_packet (header_in packed w) k y.parts y.used y.after is.bands p.0 y.header
   | inr p ↦ p.1 y.parts y.used y.after y.header
 ]
 
-body_breaks_once : (w : List ℕ) (at : ℕ) (k : State) (f g : StreamFault) → IsState k → BreaksBody w at k f → BreaksBody w at k g → f ≡ g
-body_breaks_once w at k f g is x y =
-    let one = one_header (header_in w) k x.parts y.parts x.used y.used x.after y.after is.bands x.header y.header in
-    let P : ℕ → Type 0 = λ u. body_fault w at u x.parts ≡ Some f in
-    let Q : List HeaderPart → Type 0 = λ ps. body_fault w at y.used ps ≡ Some f in
+body_breaks_once : (packed : Option (List ℕ)) (w : List ℕ) (at : ℕ) (k : State) (f g : StreamFault) → IsState k → BreaksBody packed w at k f → BreaksBody packed w at k g → f ≡ g
+body_breaks_once packed w at k f g is x y =
+    let one = one_header (header_in packed w) k x.parts y.parts x.used y.used x.after y.after is.bands x.header y.header in
+    let P : ℕ → Type 0 = λ u. body_fault packed w at u x.parts ≡ Some f in
+    let Q : List HeaderPart → Type 0 = λ ps. body_fault packed w at y.used ps ≡ Some f in
     same_Some f g (sym (subst Q one.parts_are (subst P one.used_is x.body)) ∙ y.body)
 
-pub breaks_once : (w : List ℕ) (at number : ℕ) (k : State) (f g : StreamFault) → IsState k → Breaks w at number k f → Breaks w at number k g → f ≡ g
-breaks_once w at number k f g is x y = elim x [
+pub breaks_once : (packed : Option (List ℕ)) (w : List ℕ) (at number : ℕ) (k : State) (f g : StreamFault) → IsState k → Breaks packed w at number k f → Breaks packed w at number k g → f ≡ g
+breaks_once packed w at number k f g is x y = elim x [
   | inl p ↦ elim y [ inl q ↦ same_Some f g (sym p ∙ q) | inr q ↦ absurd (some_none f (sym p ∙ q.0)) ]
   | inr p ↦ elim y [
     | inl q ↦ absurd (some_none g (sym q ∙ p.0))
     | inr q ↦ elim p.1 [
-      | inl ph ↦ elim q.1 [ inl qh ↦ header_breaks_once (header_in w) at k f g ph qh | inr qb ↦ absurd (header_or_body w at k f g is ph qb) ]
-      | inr pb ↦ elim q.1 [ inl qh ↦ absurd (header_or_body w at k g f is qh pb) | inr qb ↦ body_breaks_once w at k f g is pb qb ]
+      | inl ph ↦ elim q.1 [ inl qh ↦ header_breaks_once (header_in packed w) at k f g ph qh | inr qb ↦ absurd (header_or_body packed w at k f g is ph qb) ]
+      | inr pb ↦ elim q.1 [ inl qh ↦ absurd (header_or_body packed w at k g f is qh pb) | inr qb ↦ body_breaks_once packed w at k f g is pb qb ]
     ]
   ]
 ]
@@ -139,8 +145,13 @@ first_due body other later others e = cc
 rest_due : (body other : Body) (later others : List Body) → body ∷ later ≡ other ∷ others → later ≡ others
 rest_due body other later others e = cc
 
-some_due : (body : Body) (later : List Body) → body ∷ later ≡ [] → ⊥
-some_due body later e = cc
+abbrev left_behind : Geometry → Left → Body → List Body → Cut → Left
+left_behind g old body later c = record {
+  bodies = behind body c.count ∷ later;
+  end = old.end;
+  packed = packed_behind old.packed c.used;
+  states = set old.states (number_of g c.name) c.after;
+}
 
 pub record OneTurn (c d : Cut) (new other : Left) : Type 0 where
   pub cut : c ≡ d
@@ -154,14 +165,14 @@ turn_once b g number old c d new other en t is u =
     let later : t.later ≡ u.later = rest_due t.body u.body t.later u.later both in
     let found : slice_get old.states (number_of g c.name) ≡ Some u.state = ap (λ (n : PacketName). slice_get old.states (number_of g n)) (sym en) ∙ u.known in
     let state : u.state ≡ t.state = same_Some u.state t.state (sym found ∙ t.known) in
-    let P : Body → Type 0 = λ x. IsCut (window b x) number u.state d in
-    let Q : State → Type 0 = λ x. IsCut (window b t.body) number x d in
-    let cut : c ≡ d = cut_once (window b t.body) number t.state c d is (sym en) t.cut (subst Q state (subst P body u.cut)) in
+    let P : Body → Type 0 = λ x. IsCut old.packed (window b x) number u.state d in
+    let Q : State → Type 0 = λ x. IsCut old.packed (window b t.body) number x d in
+    let cut : c ≡ d = cut_once old.packed (window b t.body) number t.state c d is (sym en) t.cut (subst Q state (subst P body u.cut)) in
     let left : new ≡ other =
     t.new_is
-    ∙ ap (λ (x : Body). let l : Left = record { bodies = behind x c.count ∷ t.later; states = set old.states (number_of g c.name) c.after } in l) (sym body)
-    ∙ ap (λ (x : List Body). let l : Left = record { bodies = behind u.body c.count ∷ x; states = set old.states (number_of g c.name) c.after } in l) later
-    ∙ ap (λ (x : Cut). let l : Left = record { bodies = behind u.body x.count ∷ u.later; states = set old.states (number_of g x.name) x.after } in l) cut
+    ∙ ap (λ (x : Body). left_behind g old x t.later c) (sym body)
+    ∙ ap (λ (x : List Body). left_behind g old u.body x c) later
+    ∙ ap (λ (x : Cut). left_behind g old u.body u.later x) cut
     ∙ sym u.new_is in
     record { cut = cut; left = left }
 
@@ -175,9 +186,9 @@ due_once b g number left p f h sure x y =
     let both : x.body ∷ x.later ≡ y.body ∷ y.later = sym x.due_is ∙ y.due_is in
     let body : y.body ≡ x.body = sym (first_due x.body y.body x.later y.later both) in
     let state : y.state ≡ x.state = same_Some y.state x.state (sym y.known ∙ x.known) in
-    let P : Body → Type 0 = λ w. Breaks (window b w) w.at number y.state h in
-    let Q : State → Type 0 = λ w. Breaks (window b x.body) x.body.at number w h in
-    breaks_once (window b x.body) x.body.at number x.state f h (sure x.state x.known) x.breaks (subst Q state (subst P body y.breaks))
+    let P : Body → Type 0 = λ w. Breaks left.packed (window b w) w.at number y.state h in
+    let Q : State → Type 0 = λ w. Breaks left.packed (window b x.body) x.body.at number w h in
+    breaks_once left.packed (window b x.body) x.body.at number x.state f h (sure x.state x.known) x.breaks (subst Q state (subst P body y.breaks))
 
 pub due_no_turn : (b : List ℕ) (g : Geometry) (number : ℕ) (left : Left) (f : StreamFault) (c : Cut) (new : Left) → IsSure g left c.name
     → BreaksDue b g number left c.name f → IsTurn b g number left c new → ⊥
@@ -185,41 +196,19 @@ due_no_turn b g number left f c new sure x t =
     let both : x.body ∷ x.later ≡ t.body ∷ t.later = sym x.due_is ∙ t.due_is in
     let body : x.body ≡ t.body = first_due x.body t.body x.later t.later both in
     let state : x.state ≡ t.state = same_Some x.state t.state (sym x.known ∙ t.known) in
-    let P : Body → Type 0 = λ w. Breaks (window b w) w.at number x.state f in
-    let Q : State → Type 0 = λ w. Breaks (window b t.body) t.body.at number w f in
-    breaks_not_cut (window b t.body) t.body.at number t.state f c (sure t.state t.known) (subst Q state (subst P body x.breaks)) t.cut
-
--- where reading stops before a packet, the packet isn't cut off
-pub stops_no_turn : (b : List ℕ) (g : Geometry) (end number : ℕ) (left : Left) (rest : List PacketName) (f : StreamFault) (c : Cut) (new : Left) → IsSure g left c.name
-    → Stops b g end number left (c.name ∷ rest) f → IsTurn b g number left c new → ⊥
-stops_no_turn b g end number left rest f c new sure x t = elim x [
-  | inl gone ↦ some_due t.body t.later (sym t.due_is ∙ gone.0)
-  | inr breaks ↦ due_no_turn b g number left f c new sure breaks t
-]
+    let P : Body → Type 0 = λ w. Breaks left.packed (window b w) w.at number x.state f in
+    let Q : State → Type 0 = λ w. Breaks left.packed (window b t.body) t.body.at number w f in
+    breaks_not_cut left.packed (window b t.body) t.body.at number t.state f c (sure t.state t.known) (subst Q state (subst P body x.breaks)) t.cut
 
 -- those that may be due
 abbrev pub AreSure : Geometry → Left → List PacketName → Type 0
 AreSure g left [] = Unit {0}
 AreSure g left (p ∷ rest) = IsSure g left p
 
-left_over_once : (left : Left) (f h : StreamFault) → IsLeftOver left f → IsLeftOver left h → f ≡ h
-left_over_once left f h x y =
-    let body : x.body ≡ y.body = first_due x.body y.body x.later y.later (sym x.due_is ∙ y.due_is) in
-    x.fault_is ∙ ap (λ (w : Body). fault.Rule 31 w.at) body ∙ sym y.fault_is
-
-pub stops_once : (b : List ℕ) (g : Geometry) (end number : ℕ) (left : Left) (rest : List PacketName) (f h : StreamFault) → AreSure g left rest
-    → Stops b g end number left rest f → Stops b g end number left rest h → f ≡ h
-stops_once b g end number left [] f h sure x y = left_over_once left f h x y
-stops_once b g end number left (p ∷ rest) f h sure x y = elim x [
-  | inl gone ↦ elim y [
-    | inl same ↦ gone.1 ∙ sym same.1
-    | inr breaks ↦ absurd (some_due breaks.body breaks.later (sym breaks.due_is ∙ gone.0))
-  ]
-  | inr breaks ↦ elim y [
-    | inl gone ↦ absurd (some_due breaks.body breaks.later (sym breaks.due_is ∙ gone.0))
-    | inr same ↦ due_once b g number left p f h sure breaks same
-  ]
-]
+pub stops_once : (b : List ℕ) (g : Geometry) (pieces : List Body) (number : ℕ) (left : Left) (rest : List PacketName) (f h : StreamFault) → AreSure g left rest
+    → Stops b g pieces number left rest f → Stops b g pieces number left rest h → f ≡ h
+stops_once b g pieces number left [] f h sure x y = same_Some f h (sym x ∙ y)
+stops_once b g pieces number left (p ∷ rest) f h sure x y = due_once b g number left p f h sure x y
 
 -- ---- packets one after another
 -- other cuts begin with these, and go on with those of the rest
@@ -261,11 +250,12 @@ goes_on b s g number old left new (c ∷ cuts) (d ∷ ds) rest x y e =
 pub record IsReady (b : List ℕ) (s : Stream) (t : ℕ) : Type 0 where
   pub places : Precincts s (geometry s t)
   pub keeps : Keeps b
+  pub few : AreFew b (start b s t).packed
   pub whole : IsWhole s t
 
 -- cuts at the front of a tile's list
 record Begins (b : List ℕ) (s : Stream) (t : ℕ) (cuts : List Cut) (rest : List PacketName) (left : Left) : Type 0 where
-  pub turns : AreInTurn b s (geometry s t) 0 (start s t) cuts left
+  pub turns : AreInTurn b s (geometry s t) 0 (start b s t) cuts left
   pub sure : AreSure (geometry s t) left rest
 
 sure_rest : (s : Stream) (g : Geometry) (layers : ℕ) (list done rest : List PacketName) (left : Left) → Listed g layers list → list ≡ done ++ rest
@@ -278,13 +268,13 @@ sure_rest s g layers list done (p ∷ rest) left h e all = λ state found.
     subst I same k.is
 
 begins : (b : List ℕ) (s : Stream) (t : ℕ) (cuts : List Cut) (rest : List PacketName) (left : Left) → IsReady b s t
-    → IsListOf s t (names_of cuts ++ rest) → AreCuts b (geometry s t) 0 (start s t) cuts left → Begins b s t cuts rest left
+    → IsListOf s t (names_of cuts ++ rest) → AreCuts b (geometry s t) 0 (start b s t) cuts left → Begins b s t cuts rest left
 begins b s t cuts rest left r order are =
     let h = listed s t (names_of cuts ++ rest) order r.whole in
     record {
-      turns = are_in_turn b s t (names_of cuts ++ rest) cuts rest left r.places r.keeps h refl are;
+      turns = are_in_turn b s t (names_of cuts ++ rest) cuts rest left r.places r.keeps h refl r.few are;
       sure = sure_rest s (geometry s t) (layers_of s t) (names_of cuts ++ rest) (names_of cuts) rest left h refl
-          (known_there b s t (names_of cuts ++ rest) cuts rest left r.places r.keeps h refl are);
+          (known_there b s t (names_of cuts ++ rest) cuts rest left r.places r.keeps h refl r.few are);
     }
 
 one_list : (s : Stream) (t : ℕ) (xs ys : List PacketName) → IsListOf s t xs → IsListOf s t ys → xs ≡ ys
@@ -300,30 +290,30 @@ one_cut_up b s t cuts others r x y =
     let L : List PacketName → Type 0 = λ xs. IsListOf s t xs in
     let from = begins b s t cuts [] x.end r (subst L (sym (append-nil (names_of cuts))) x.order) x.are in
     let names : names_of others ≡ names_of cuts ++ [] = one_list s t (names_of others) (names_of cuts) y.order x.order ∙ sym (append-nil (names_of cuts)) in
-    let go = goes_on b s (geometry s t) 0 (start s t) x.end y.end cuts others [] from.turns y.are names in
+    let go = goes_on b s (geometry s t) 0 (start b s t) x.end y.end cuts others [] from.turns y.are names in
     sym (go.is ∙ ap (λ (l : List Cut). cuts ++ l) (unnamed go.more go.names) ∙ append-nil cuts)
 
 -- or not at all, where a rule is violated
-stops_not_up : (b : List ℕ) (s : Stream) (g : Geometry) (last number count : ℕ) (left end : Left) (rest : List PacketName) (f : StreamFault) (more : List Cut) → AreSure g left rest
-    → Stops b g last number left rest f → number ≡ count → names_of more ≡ rest → AreCuts b g count left more end → due end.bodies ≡ [] → ⊥
-stops_not_up b s g last number count left end [] f [] sure stops same names are up =
-    some_due stops.body stops.later (sym stops.due_is ∙ ap (λ (l : Left). due l.bodies) are ∙ up)
-stops_not_up b s g last number count left end [] f (c ∷ more) sure stops same names are up = none_named c.name (names_of more) (sym names)
-stops_not_up b s g last number count left end (p ∷ rest) f [] sure stops same names are up = none_named p rest names
-stops_not_up b s g last number count left end (p ∷ rest) f (c ∷ more) sure stops same names are up =
+stops_not_up : (b : List ℕ) (s : Stream) (g : Geometry) (pieces : List Body) (number count : ℕ) (left end : Left) (rest : List PacketName) (f : StreamFault) (more : List Cut) → AreSure g left rest
+    → Stops b g pieces number left rest f → number ≡ count → names_of more ≡ rest → AreCuts b g count left more end → left_fault pieces end ≡ None → ⊥
+stops_not_up b s g pieces number count left end [] f [] sure stops same names are up =
+    none-some f (sym (ap (left_fault pieces) are ∙ up) ∙ stops)
+stops_not_up b s g pieces number count left end [] f (c ∷ more) sure stops same names are up = none_named c.name (names_of more) (sym names)
+stops_not_up b s g pieces number count left end (p ∷ rest) f [] sure stops same names are up = none_named p rest names
+stops_not_up b s g pieces number count left end (p ∷ rest) f (c ∷ more) sure stops same names are up =
     let en : p ≡ c.name = sym (name_first c more p rest names) in
     let P : PacketName → Type 0 = λ n. IsSure g left n in
-    let Q : PacketName → Type 0 = λ n. Stops b g last number left (n ∷ rest) f in
+    let Q : PacketName → Type 0 = λ n. Stops b g pieces number left (n ∷ rest) f in
     let T : ℕ → Type 0 = λ n. IsTurn b g n left c are.0 in
-    stops_no_turn b g last number left rest f c are.0 (subst P en sure) (subst Q en stops) (subst T (sym same) are.1)
+    due_no_turn b g number left f c are.0 (subst P en sure) (subst Q en stops) (subst T (sym same) are.1)
 
 pub up_or_broken : (b : List ℕ) (s : Stream) (t : ℕ) (cuts : List Cut) (f : StreamFault) → IsReady b s t → IsCutUp b s t cuts → BreaksTile b s t f → ⊥
 up_or_broken b s t cuts f r up x =
     let from = begins b s t x.cuts x.rest x.left r x.order x.are in
     let names : names_of cuts ≡ names_of x.cuts ++ x.rest = one_list s t (names_of cuts) (names_of x.cuts ++ x.rest) up.order x.order in
-    let go = goes_on b s (geometry s t) 0 (start s t) x.left up.end x.cuts cuts x.rest from.turns up.are names in
+    let go = goes_on b s (geometry s t) 0 (start b s t) x.left up.end x.cuts cuts x.rest from.turns up.are names in
     let count : length x.cuts ≡ 0 + length x.cuts = omega arith in
-    stops_not_up b s (geometry s t) (end_of_data (tile_at s t).bodies) (length x.cuts) (0 + length x.cuts) x.left up.end x.rest f go.more from.sure x.stops count
+    stops_not_up b s (geometry s t) (head_pieces s t) (length x.cuts) (0 + length x.cuts) x.left up.end x.rest f go.more from.sure x.stops count
     go.names go.on up.none_left
 
 -- ---- two fronts of a list: one begins the other
@@ -343,34 +333,34 @@ fronts (x ∷ xs) (y ∷ ys) us vs e =
     ]
 
 -- where reading stops, and where it stops later
-stops_again : (b : List ℕ) (s : Stream) (g : Geometry) (last number count : ℕ) (left other : Left) (rest mid others : List PacketName) (f h : StreamFault) (more : List Cut)
-    → AreSure g left rest → Stops b g last number left rest f → number ≡ count → rest ≡ mid ++ others → names_of more ≡ mid → AreCuts b g count left more other
-    → Stops b g last (count + length more) other others h → f ≡ h
-stops_again b s g last number count left other rest [] others f h [] sure stops same eq names are again =
-    let N : ℕ → Type 0 = λ n. Stops b g last n other others h in
-    let L : Left → Type 0 = λ l. Stops b g last number l others h in
-    let R : List PacketName → Type 0 = λ ns. Stops b g last number left ns h in
+stops_again : (b : List ℕ) (s : Stream) (g : Geometry) (pieces : List Body) (number count : ℕ) (left other : Left) (rest mid others : List PacketName) (f h : StreamFault) (more : List Cut)
+    → AreSure g left rest → Stops b g pieces number left rest f → number ≡ count → rest ≡ mid ++ others → names_of more ≡ mid → AreCuts b g count left more other
+    → Stops b g pieces (count + length more) other others h → f ≡ h
+stops_again b s g pieces number count left other rest [] others f h [] sure stops same eq names are again =
+    let N : ℕ → Type 0 = λ n. Stops b g pieces n other others h in
+    let L : Left → Type 0 = λ l. Stops b g pieces number l others h in
+    let R : List PacketName → Type 0 = λ ns. Stops b g pieces number left ns h in
     let back : count + 0 ≡ number = omega arith in
-    stops_once b g last number left rest f h sure stops (subst R (sym eq) (subst L (sym are) (subst N back again)))
-stops_again b s g last number count left other rest [] others f h (c ∷ more) sure stops same eq names are again = absurd (none_named c.name (names_of more) (sym names))
-stops_again b s g last number count left other rest (p ∷ mid) others f h [] sure stops same eq names are again = absurd (none_named p mid names)
-stops_again b s g last number count left other rest (p ∷ mid) others f h (c ∷ more) sure stops same eq names are again =
+    stops_once b g pieces number left rest f h sure stops (subst R (sym eq) (subst L (sym are) (subst N back again)))
+stops_again b s g pieces number count left other rest [] others f h (c ∷ more) sure stops same eq names are again = absurd (none_named c.name (names_of more) (sym names))
+stops_again b s g pieces number count left other rest (p ∷ mid) others f h [] sure stops same eq names are again = absurd (none_named p mid names)
+stops_again b s g pieces number count left other rest (p ∷ mid) others f h (c ∷ more) sure stops same eq names are again =
     let en : p ≡ c.name = sym (name_first c more p mid names) in
     let first : rest ≡ c.name ∷ (mid ++ others) = eq ∙ ap (λ (n : PacketName). n ∷ (mid ++ others)) en in
     let P : List PacketName → Type 0 = λ ns. AreSure g left ns in
-    let Q : List PacketName → Type 0 = λ ns. Stops b g last number left ns f in
+    let Q : List PacketName → Type 0 = λ ns. Stops b g pieces number left ns f in
     let T : ℕ → Type 0 = λ n. IsTurn b g n left c are.0 in
-    absurd (stops_no_turn b g last number left (mid ++ others) f c are.0 (subst P first sure) (subst Q first stops) (subst T (sym same) are.1))
+    absurd (due_no_turn b g number left f c are.0 (subst P first sure) (subst Q first stops) (subst T (sym same) are.1))
 
 broken_ahead : (b : List ℕ) (s : Stream) (t : ℕ) (f h : StreamFault) → IsReady b s t → (x : BreaksTile b s t f) → (y : BreaksTile b s t h)
     → Begun (names_of x.cuts) (names_of y.cuts) x.rest y.rest → f ≡ h
 broken_ahead b s t f h r x y ahead =
     let from = begins b s t x.cuts x.rest x.left r x.order x.are in
-    let go = goes_on b s (geometry s t) 0 (start s t) x.left y.left x.cuts y.cuts ahead.mid from.turns y.are ahead.longer in
+    let go = goes_on b s (geometry s t) 0 (start b s t) x.left y.left x.cuts y.cuts ahead.mid from.turns y.are ahead.longer in
     let count : length x.cuts ≡ 0 + length x.cuts = omega arith in
     let all : length y.cuts ≡ 0 + length x.cuts + length go.more = (let e = ap (λ (l : List Cut). length l) go.is in let a = length-append x.cuts go.more in omega arith) in
-    let N : ℕ → Type 0 = λ n. Stops b (geometry s t) (end_of_data (tile_at s t).bodies) n y.left y.rest h in
-    stops_again b s (geometry s t) (end_of_data (tile_at s t).bodies) (length x.cuts) (0 + length x.cuts) x.left y.left x.rest ahead.mid y.rest f h go.more
+    let N : ℕ → Type 0 = λ n. Stops b (geometry s t) (head_pieces s t) n y.left y.rest h in
+    stops_again b s (geometry s t) (head_pieces s t) (length x.cuts) (0 + length x.cuts) x.left y.left x.rest ahead.mid y.rest f h go.more
     from.sure x.stops count ahead.rest go.names go.on (subst N all y.stops)
 
 pub tile_broken_once : (b : List ℕ) (s : Stream) (t : ℕ) (f h : StreamFault) → IsReady b s t → BreaksTile b s t f → BreaksTile b s t h → f ≡ h
@@ -385,9 +375,10 @@ tile_broken_once b s t f h r x y =
 pub record Ready (b : List ℕ) (s : Stream) : Type 0 where
   pub keeps : Keeps b
   pub places : (t : ℕ) → t < tile_number s.siz → Precincts s (geometry s t)
+  pub few : (t : ℕ) → t < tile_number s.siz → AreFew b (start b s t).packed
 
 pub ready_tile : (b : List ℕ) (s : Stream) (t : ℕ) → Ready b s → t < tile_number s.siz → IsWhole s t → IsReady b s t
-ready_tile b s t r inside whole = record { places = r.places t inside; keeps = r.keeps; whole = whole }
+ready_tile b s t r inside whole = record { places = r.places t inside; keeps = r.keeps; few = r.few t inside; whole = whole }
 
 tile_once : (b : List ℕ) (s : Stream) (t : ℕ) (xs ys : List Block) → IsReady b s t → AreTileBlocks b s t xs → AreTileBlocks b s t ys → xs ≡ ys
 tile_once b s t xs ys r x y =

@@ -25,8 +25,8 @@ planned_written b s t blocks ps read none inside are sound planned =
 
 pub planned_gathered : (b : List ℕ) (s : Stream) (blocks : List Block) (packets : ℕ → Packets) (groups : ℕ → List (List PacketName)) → IsRead b s → totals_fault s ≡ None
     → AreBlocksOf s blocks → All IsSound blocks → ((t : ℕ) → t < tile_number s.siz → IsWhole s t) → ((t : ℕ) → t < tile_number s.siz → IsListOf s t (packets_in (groups t)))
-    → ((t : ℕ) → t < tile_number s.siz → AreFilled b (packets t) 0 (tile_at s t).bodies (groups t)) → ((t : ℕ) → t < tile_number s.siz → ArePlanned s t blocks (packets t)) → IsGathered b s blocks
-planned_gathered b s blocks packets groups read none are sound whole order filled planned =
+    → ((t : ℕ) → t < tile_number s.siz → (tile_at s t).heads ≡ None) → ((t : ℕ) → t < tile_number s.siz → AreFilled b (packets t) 0 (tile_at s t).bodies (groups t)) → ((t : ℕ) → t < tile_number s.siz → ArePlanned s t blocks (packets t)) → IsGathered b s blocks
+planned_gathered b s blocks packets groups read none are sound whole order in_place filled planned =
     carried_gathered b s blocks packets groups read none are sound whole
-    (λ t inside. (record { order = order t inside; written = (planned_written b s t blocks (packets t) read none inside are sound (planned t inside)).0; filled = filled t inside }))
+    (λ t inside. (record { in_place = in_place t inside; order = order t inside; written = (planned_written b s t blocks (packets t) read none inside are sound (planned t inside)).0; filled = filled t inside }))
     (λ t inside. (planned_written b s t blocks (packets t) read none inside are sound (planned t inside)).1)

@@ -6,7 +6,7 @@ use Rattle.jx_codestream.specs.declared.Stream.{Stream}
 use Rattle.jx_codestream.specs.First.{tile_number}
 use Rattle.jx_codestream.specs.declared.faults.StreamFault.{StreamFault}
 use Rattle.jx_codestream.specs.Read.{IsRead}
-use Rattle.jx_codestream.specs.Shapes.{geometry}
+use Rattle.jx_codestream.specs.Shapes.{geometry, tile_at}
 use Rattle.jx_codestream.specs.InRange.{StreamInRange}
 use Rattle.jx_tile.specs.Totals.{totals_fault}
 use Rattle.jx_codestream.specs.declared.faults.StreamFault.TheVariants as fault
@@ -18,6 +18,7 @@ use Rattle.jx_tier2_reader.proofs.NumberLemmas.{precinct_there}
 use Rattle.jx_geom.proofs.PrecinctLemmas.{precinct_once}
 use Rattle.jx_tier2_reader.proofs.FreshLemmas.{fresh_is_state}
 use Rattle.jx_tier2_reader.proofs.PartLemmas.{packet_kept, state_kept}
+use Rattle.jx_tier2_reader.proofs.HeadLemmas.{few_packed, read_heads}
 use Rattle.jx_tier2_reader.proofs.TurnLemmas.{Precincts, Keeps}
 use Rattle.jx_tier2_reader.proofs.OnceLemmas as once
 
@@ -41,6 +42,7 @@ pub ready : (b : List ℕ) (s : Stream) → IsRead b s → length b < 2 ^ 64 →
 ready b s read few none = record {
   keeps = keeps b few;
   places = λ t inside. precincts s t (read_in_range b s read) none inside;
+  few = λ t inside. few_packed b (tile_at s t).heads (read_heads b s t read inside);
 }
 
 -- tile data have one reading

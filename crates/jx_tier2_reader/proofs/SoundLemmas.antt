@@ -156,7 +156,7 @@ pub record IsBegun (b : List ℕ) (s : Stream) (t : ℕ) (cuts : List Cut) (left
   pub limits : GeometryInRange (geometry s t)
   pub there : AreThere (geometry s t) cuts
   pub rise : Rise (geometry s t) cuts
-  pub are : AreCuts b (geometry s t) 0 (start s t) cuts left
+  pub are : AreCuts b (geometry s t) 0 (start b s t) cuts left
   pub few : together (tile_at s t).bodies ≤ most_bytes
 
 there_from : (g : Geometry) (layers : ℕ) (cuts : List Cut) → ((p : PacketName) → Contains (names_of cuts) p → IsPacketName g layers p) → AreThere g cuts
@@ -188,7 +188,7 @@ rise_from g (c ∷ cuts) rest there all = (
 )
 
 pub begun : (b : List ℕ) (s : Stream) (t : ℕ) (cuts : List Cut) (rest : List PacketName) (left : Left) → StreamInRange s → GeometryInRange (geometry s t) → t < tile_number s.siz → length b ≤ most_bytes →
-    DataInRange b (tile_at s t).bodies → IsListOf s t (names_of cuts ++ rest) → AreCuts b (geometry s t) 0 (start s t) cuts left → IsBegun b s t cuts left
+    DataInRange b (tile_at s t).bodies → IsListOf s t (names_of cuts ++ rest) → AreCuts b (geometry s t) 0 (start b s t) cuts left → IsBegun b s t cuts left
 begun b s t cuts rest left range limits tile short bodies list are =
     let entries = (tile_at s t).progressions in
     let there : AreThere (geometry s t) cuts = there_from (geometry s t) (layers_of s t) cuts (λ (p : PacketName) (h : Contains (names_of cuts) p).
@@ -205,7 +205,7 @@ begun b s t cuts rest left range limits tile short bodies list are =
     }
 
 pub begun_leaves : (b : List ℕ) (s : Stream) (t : ℕ) (cuts : List Cut) (left : Left) → IsBegun b s t cuts left → AreFromLeaves (geometry s t) (founds_of (geometry s t) cuts)
-begun_leaves b s t cuts left h = founds_leaves b s (geometry s t) 0 cuts (start s t) left h.there (start_follow s (geometry s t)) h.are
+begun_leaves b s t cuts left h = founds_leaves b s (geometry s t) 0 cuts (start b s t) left h.there (start_follow s (geometry s t)) h.are
 
 -- ---- one block
 pub record OfNumber (g : Geometry) (i : ℕ) (f : FoundPiece) : Type 0 where
@@ -282,7 +282,7 @@ sound_block b s t cuts left n h is =
   where
     few : bytes_in (pieces_in (own_founds (number_in_tile (geometry s t) n) (founds_of (geometry s t) cuts))) ≤ most_bytes
     few =
-        let all : bytes_in (pieces_in (founds_of (geometry s t) cuts)) ≤ together (tile_at s t).bodies = cuts_take b (geometry s t) 0 cuts (start s t) left h.are in
+        let all : bytes_in (pieces_in (founds_of (geometry s t) cuts)) ≤ together (tile_at s t).bodies = cuts_take b (geometry s t) 0 cuts (start b s t) left h.are in
         let own : bytes_in (pieces_in (own_founds (number_in_tile (geometry s t) n) (founds_of (geometry s t) cuts))) ≤ bytes_in (pieces_in (founds_of (geometry s t) cuts)) =
         bytes_own (number_in_tile (geometry s t) n) (founds_of (geometry s t) cuts) in
         let small : together (tile_at s t).bodies ≤ most_bytes = h.few in
@@ -309,7 +309,7 @@ sound_block b s t cuts left n h is =
         let leaf : FromLeaf (geometry s t) f = all.0.leaf in
         let number : number_in_tile (geometry s t) n ≡ leaf_number (geometry s t) leaf.comp leaf.res leaf.precinct leaf.block = sym (leaf.number ∙ all.0.number) in
         let tracked : Tracked s (geometry s t) leaf.comp leaf.res leaf.precinct leaf.block 0 (founds_of (geometry s t) cuts) (fresh_precinct s (geometry s t) leaf.comp leaf.res leaf.precinct) left.states =
-        track b s (geometry s t) leaf.comp leaf.res leaf.precinct leaf.block 0 0 cuts (start s t) left (fresh_precinct s (geometry s t) leaf.comp leaf.res leaf.precinct) h.limits leaf.there leaf.inside h.there h.rise
+        track b s (geometry s t) leaf.comp leaf.res leaf.precinct leaf.block 0 0 cuts (start b s t) left (fresh_precinct s (geometry s t) leaf.comp leaf.res leaf.precinct) h.limits leaf.there leaf.inside h.there h.rise
         (start_follow s (geometry s t)) (above_zero (geometry s t) (precinct_number (geometry s t) leaf.comp leaf.res leaf.precinct) cuts) h.are
         (precinct_there s (geometry s t) leaf.comp leaf.res leaf.precinct leaf.there) in
         let own : own_founds (leaf_number (geometry s t) leaf.comp leaf.res leaf.precinct leaf.block) (founds_of (geometry s t) cuts) ≡ f ∷ fs =
@@ -363,7 +363,7 @@ put_cuts b s t cuts left h =
 
 -- ---- of a codestream that is read
 pub read_begun : (b : List ℕ) (s : Stream) (t : ℕ) (cuts : List Cut) (rest : List PacketName) (left : Left) → IsRead b s → length b ≤ most_bytes → t < tile_number s.siz → totals_fault s ≡ None →
-    IsListOf s t (names_of cuts ++ rest) → AreCuts b (geometry s t) 0 (start s t) cuts left → IsBegun b s t cuts left
+    IsListOf s t (names_of cuts ++ rest) → AreCuts b (geometry s t) 0 (start b s t) cuts left → IsBegun b s t cuts left
 read_begun b s t cuts rest left read short tile totals list are =
     let range : StreamInRange s = read_in_range b s read in
     begun b s t cuts rest left range (geometry_fits s t range totals tile) tile short (read_data b s t read tile) list are

@@ -1,9 +1,13 @@
 -- The packets of a tile, read one after another.
-use Rattle.std.proofs.Common.{◌≡◌, ℕ, suc, ◌+◌, ◌-◌, ◌<◌, ◌≤◌, ◌^◌, List, [], ◌∷◌, ◌++◌, length, get_or, set, drop, take, Some, slice_get, refl, ap, sym, ◌∙◌, subst, arith, inl, inr, All, append-nil, ◌==◌, Bool, true, false, cond, length-take, take-append-drop}
+use Rattle.std.proofs.Common.{◌≡◌, ℕ, suc, ◌+◌, ◌-◌, ◌<◌, ◌≤◌, ◌^◌, List, [], ◌∷◌, ◌++◌, length, get_or, set, drop, take, Option, None, Some, slice_get, refl, ap, sym, ◌∙◌, subst, arith, inl, inr, All, append-nil, ◌==◌, Bool, true, false, cond, length-take, take-append-drop}
 use Rattle.std.specs.List.{flat_map}
+use Rattle.std.specs.Borrow.{Bor}
+use Rattle.std.specs.Option.{option_or}
+use Rattle.std.specs.Prelude.{MatchOption, Result}
 use Rattle.std.proofs.lemmas.List.{at_drop_more, at_drop_all, length-drop, length-set, take_more}
 use Rattle.std.proofs.lemmas.List.Concat.{flat_map-append}
 use Rattle.std.proofs.lemmas.List.Elements.{All-head, All-tail, All-cons, All-weaker}
+use Rattle.std.proofs.lemmas.Bool.{both_ways, eq-eqb}
 use Rattle.std.proofs.lemmas.Option.{get_or_from_slice_get, slice_get-get_or, slice_get_within}
 use Rattle.jx_base.specs.declared.pieces.Block.{Block}
 use Rattle.jx_geom.specs.Geometry.{Geometry, GeometryInRange, rect_of_tile}
@@ -16,27 +20,28 @@ use Rattle.jx_codestream.specs.declared.Body.{Body}
 use Rattle.jx_codestream.specs.declared.Stream.{Stream}
 use Rattle.jx_codestream.specs.declared.faults.StreamFault.{StreamFault}
 use Rattle.jx_tier2_reader.specs.declared.packet.Packet.{Packet}
-use Rattle.jx_tile.specs.Faults.{HasCause}
+use Rattle.jx_tile.specs.Faults.{Answers, HasCause}
 use Rattle.jx_codestream.specs.Shapes.{geometry, layers_of, tile_at}
 use Rattle.jx_geom.specs.Precincts.{HasPrecinct, leaf_number, leaves}
-use Rattle.jx_tier2_reader.specs.Data.{window, due, behind, end_of_data, front_length, header_in, parts_length}
-use Rattle.jx_tier2_reader.specs.Cuts.{Cut, Left, IsCut, IsTurn, AreCuts, names_of, number_of, Breaks}
+use Rattle.jx_tier2_reader.specs.Data.{window, due, due_or, behind, end_in, end_of_bytes, end_of_data, first_place, front_length, header_in, packed_behind, parts_length}
+use Rattle.jx_tier2_reader.specs.Cuts.{Cut, Left, IsCut, IsTurn, AreCuts, names_of, number_of, Breaks, data_fault, left_fault, packed_fault}
 use Rattle.jx_tier2_reader.specs.Blocks.{FoundPiece, founds_from, founds_in, founds_of, blocks_of_tile}
+use Rattle.jx_tier2_reader.specs.InRange.{HeadsInRange}
 use Rattle.jx_tier2_reader.specs.Put.{put_one, put_all}
 use Rattle.jx_tile.specs.Covered.{IsListOf}
-use Rattle.jx_tier2_reader.specs.Gathered.{AreTileBlocks, BreaksTile, start}
-use Rattle.jx_tier2_reader.specs.Reading.{cut_of, CanPut, state_at, no_state, AreInside, IsFront, IsTask}
+use Rattle.jx_tier2_reader.specs.Gathered.{AreTileBlocks, BreaksTile, head_pieces, start}
+use Rattle.jx_tier2_reader.specs.Reading.{cut_of, CanPut, state_at, no_state, AreInside, AreShort, IsInside, IsFront, IsTask, seen}
 use Rattle.jx_tile.proofs.TotalLemmas.{geometry_fits}
 use Rattle.jx_tier2_reader.proofs.CellLemmas.{leaf_count}
 use Rattle.jx_geom.proofs.LeafLemmas.{leaf_below}
 use Rattle.jx_tier2_reader.proofs.BlockLemmas.{blocks_long}
 use Rattle.jx_tier2_reader.proofs.PartLemmas.{PartIn, part_inside, packet_kept}
 use Rattle.jx_tier2_reader.proofs.TurnLemmas.{Precincts, Keeps, Listed, Known, listed, due_named, has_precinct, known_there, layer_is}
+use Rattle.jx_tier2_reader.proofs.HeadLemmas.{few_packed}
 use Rattle.jx_tier2_reader.proofs.SoundLemmas.{IsBegun, begun, passes_fit, put_cuts}
 use Rattle.jx_tier2_reader.proofs.ReadyLemmas.{keeps, precincts}
 use Rattle.jx_tier2_reader.proofs.PacketLemmas.{cause_on}
 use Rattle.jx_tier2_reader.proofs.PieceLemmas.{one_long}
-use Rattle.jx_codestream.specs.declared.faults.StreamFault.TheVariants as fault
 use Rattle.jx_base.specs.Limits.{most_bytes}
 
 -- ---- the data of tile-parts
@@ -47,6 +52,39 @@ inside_due b (x ∷ bodies) body later all e = by (x.length == 0) (inside_due b 
     by : (none : Bool) → (due bodies ≡ body ∷ later → AreInside b (body ∷ later)) → cond none (due bodies) (x ∷ bodies) ≡ body ∷ later → AreInside b (body ∷ later)
     by true again e = again e
     by false again e = let I : List Body → Type 0 = λ ys. AreInside b ys in subst I e all
+
+pub inside_turn : (b : List ℕ) (left : Left) (body : Body) (later : List Body) → IsInside b left → due_or left.end (due left.bodies) ≡ body ∷ later → AreInside b (body ∷ later)
+inside_turn b left body later inside e = by (due left.bodies) (λ x xs. inside_due b left.bodies x xs inside.bodies) e
+  where
+    by : (found : List Body) → ((x : Body) (xs : List Body) → found ≡ x ∷ xs → AreInside b (x ∷ xs)) → due_or left.end found ≡ body ∷ later → AreInside b (body ∷ later)
+    by [] all is =
+        let I : List Body → Type 0 = λ ys. AreInside b ys in
+        let none : AreInside b [] = λ i d lt. absurd (omega arith) in
+        subst I is (All-cons (λ (y : Body). y.at + y.length ≤ length b) (record { at = left.end; length = 0 }) [] (let low = inside.end in omega arith) none)
+    by (x ∷ xs) all is = let I : List Body → Type 0 = λ ys. AreInside b ys in subst I is (all x xs refl)
+
+-- where the packet that is due would begin without a byte, no byte of the tile data is left
+first_long : List Body → ℕ
+first_long [] = 0
+first_long (body ∷ later) = body.length
+
+due_empty : (at : ℕ) (bodies : List Body) (body : Body) (later : List Body) → due_or at (due bodies) ≡ body ∷ later → body.length ≡ 0 → due bodies ≡ []
+unfolding first_long
+due_empty at [] body later e none = refl
+due_empty at (x ∷ bodies) body later e none = by (x.length == 0) refl (λ f. due_empty at bodies body later f none) e
+  where
+    by : (c : Bool) → (x.length == 0) ≡ c → (due_or at (due bodies) ≡ body ∷ later → due bodies ≡ []) → due_or at (cond c (due bodies) (x ∷ bodies)) ≡ body ∷ later → cond c (due bodies) (x ∷ bodies) ≡ []
+    by true t again f = again f
+    by false t again f = absurd (both_ways (x.length == 0) t (eq-eqb x.length 0 (ap first_long f ∙ none)))
+
+-- so what is left is what is left of the packed headers
+pub used_up : {X : Type 0} (pieces : List Body) (old : Left) (body : Body) (later : List Body) (packed : Option (List ℕ)) (r : Result X StreamFault)
+    → due_or old.end (due old.bodies) ≡ body ∷ later → body.length ≡ 0 → packed ≡ old.packed → Answers r (packed_fault pieces packed) (λ x. Unit {0}) → Answers r (left_fault pieces old) (λ x. Unit {0})
+used_up pieces old body later packed r first none same answer =
+    let empty : due old.bodies ≡ [] = due_empty old.end old.bodies body later first none in
+    let fault : packed_fault pieces packed ≡ left_fault pieces old =
+    ap (packed_fault pieces) same ∙ sym (ap (λ (xs : List Body). option_or (data_fault xs) (packed_fault pieces old.packed)) empty) in
+    subst (λ (o : Option StreamFault). Answers r o (λ x. Unit {0})) fault answer
 
 pub behind_inside : (b : List ℕ) (body : Body) (later : List Body) (count : ℕ) → count ≤ body.length → AreInside b (body ∷ later) → AreInside b (behind body count ∷ later)
 behind_inside b body later count few all =
@@ -67,6 +105,41 @@ last_ends (x ∷ y ∷ bodies) body e =
     let P : ℕ → Type 0 = λ n. Some body ≡ slice_get (x ∷ y ∷ bodies) n in
     let Q : ℕ → Type 0 = λ n. Some body ≡ slice_get (y ∷ bodies) n in
     last_ends (y ∷ bodies) body (subst Q (sym again) (subst P less e))
+
+-- pieces of a file that is read end before 2^32
+pub heads_short : (b : List ℕ) (pieces : List Body) → length b ≤ most_bytes → HeadsInRange b pieces → AreShort pieces
+heads_short b pieces fits range =
+    All-weaker (λ (x : Body). x.at + x.length ≤ length b) (λ (x : Body). x.at + x.length < 2 ^ 32) (λ x le. (let low : x.at + x.length ≤ length b = le in omega (arith, low, fits))) pieces range.inside
+
+pub bodies_short : (b : List ℕ) (bodies : List Body) → length b ≤ most_bytes → AreInside b bodies → AreShort bodies
+bodies_short b bodies fits inside =
+    All-weaker (λ (x : Body). x.at + x.length ≤ length b) (λ (x : Body). x.at + x.length < 2 ^ 32) (λ x le. (let low : x.at + x.length ≤ length b = le in omega (arith, low, fits))) bodies inside
+
+pub seen_heads : (found : Option (Bor (List Body))) (heads : Option (List Body)) → MatchOption found (heads ≡ None) (λ pieces. heads ≡ Some pieces.now) → seen found ≡ heads
+seen_heads None heads is = sym is
+seen_heads (Some pieces) heads is = sym is
+
+-- a packet begins in the file, or at its end
+bytes_end : (b : List ℕ) (at : ℕ) (bodies : List Body) → at ≤ length b → AreInside b bodies → end_of_bytes at bodies ≤ length b
+bytes_end b at [] low all = low
+bytes_end b at (body ∷ later) low all =
+    let own : body.at + body.length ≤ length b = All-head (λ (x : Body). x.at + x.length ≤ length b) body later all in
+    let rest = All-tail (λ (x : Body). x.at + x.length ≤ length b) body later all in
+    by (body.length == 0) (bytes_end b at later low rest) (bytes_end b (body.at + body.length) later own rest)
+  where
+    by : (c : Bool) → end_of_bytes at later ≤ length b → end_of_bytes (body.at + body.length) later ≤ length b → end_of_bytes (cond c at (body.at + body.length)) later ≤ length b
+    by true x y = x
+    by false x y = y
+
+first_low : (b : List ℕ) (bodies : List Body) → AreInside b bodies → first_place bodies ≤ length b
+first_low b [] all = omega arith
+first_low b (body ∷ later) all =
+    let own : body.at + body.length ≤ length b = All-head (λ (x : Body). x.at + x.length ≤ length b) body later all in
+    omega arith
+
+pub end_low : (b : List ℕ) (heads : Option (List Body)) (bodies : List Body) → AreInside b bodies → end_in heads bodies ≤ length b
+end_low b None bodies all = end_inside b bodies all
+end_low b (Some pieces) bodies all = bytes_end b (first_place bodies) bodies (first_low b bodies all) all
 
 -- ---- cuts
 pub cuts_on : (b : List ℕ) (g : Geometry) (number : ℕ) (old mid new : Left) (cuts : List Cut) (c : Cut) → AreCuts b g number old cuts mid → IsTurn b g (number + length cuts) mid c new
@@ -145,7 +218,7 @@ ready b s g list number left blocks d task lt front =
     let places : Precincts s (geometry s t) = precincts s t task.range task.totals task.below in
     let h : Listed (geometry s t) (layers_of s t) list = listed s t list task.order task.whole in
     let e = rest_is list (names_of front.cuts) number d front.names lt in
-    let all = known_there b s t list front.cuts (p ∷ after) front.mid places hold h e front.are in
+    let all = known_there b s t list front.cuts (p ∷ after) front.mid places hold h e (few_packed b (tile_at s t).heads task.heads) front.are in
     let own = has_precinct (geometry s t) (layers_of s t) p (due_named (geometry s t) (layers_of s t) list (names_of front.cuts) after p h e) in
     let k = all p.comp p.res p.precinct own in
     let S : List State → Type 0 = λ xs. IsReady (geometry s t) xs (number_of (geometry s t) p) p in
@@ -162,80 +235,85 @@ ready_at b s g list number left blocks d states n task lt front es en =
     subst G (sym task.geometry_is) (subst N (sym same) (subst S (sym es) (ready b s g list number left blocks d task lt front)))
 
 -- ---- what is violated
-cause_rule : (P : StreamFault → Type 0) (n at : ℕ) (e : StreamFault) → e ≡ fault.Rule n at → P (fault.Rule n at) → HasCause P e
-cause_rule P n at e same h = let H : StreamFault → Type 0 = λ x. HasCause P x in subst H (sym same) h
-
--- no byte is left for a packet
-pub none_due : (b : List ℕ) (s : Stream) (g : Geometry) (list : List PacketName) (number : ℕ) (left : Left) (blocks : List Block) (end : ℕ) (e : StreamFault) → IsTask b s g list → number < length list
-    → IsFront b s g.tile (take number list) left blocks → due left.bodies ≡ [] → end ≡ end_of_data (tile_at s g.tile).bodies → e ≡ fault.Rule 26 end → HasCause (BreaksTile b s g.tile) e
-none_due b s g list number left blocks end e task lt front none end_is same =
-    let d : PacketName = record { layer = 0; res = 0; comp = 0; precinct = 0 } in
-    let L : List PacketName → Type 0 = λ xs. IsListOf s g.tile xs in
-    cause_rule (BreaksTile b s g.tile) 26 end e same (record {
-      cuts = front.cuts;
-      rest = get_or list number d ∷ drop (number + 1) list;
-      order = subst L (rest_is list (names_of front.cuts) number d front.names lt) task.order;
-      left = front.mid;
-      are = front.are;
-      stops = inl (front.due_are ∙ none, ap (λ (n : ℕ). fault.Rule 26 n) end_is);
-    })
-
 -- a byte is left behind all packets
-pub left_over : (b : List ℕ) (s : Stream) (g : Geometry) (list : List PacketName) (number : ℕ) (left : Left) (blocks : List Block) (body : Body) (later : List Body) (e : StreamFault) → IsTask b s g list → length list ≤ number
-    → IsFront b s g.tile (take number list) left blocks → due left.bodies ≡ body ∷ later → e ≡ fault.Rule 31 body.at → HasCause (BreaksTile b s g.tile) e
-left_over b s g list number left blocks body later e task ge front due_is same =
+left_same : (pieces : List Body) (old new : Left) → due old.bodies ≡ due new.bodies → old.packed ≡ new.packed → left_fault pieces old ≡ left_fault pieces new
+left_same pieces old new bodies packed =
+    ap (λ (xs : List Body). option_or (data_fault xs) (packed_fault pieces old.packed)) bodies
+    ∙ ap (λ (x : Option (List ℕ)). option_or (data_fault (due new.bodies)) (packed_fault pieces x)) packed
+
+pub left_over : (b : List ℕ) (s : Stream) (g : Geometry) (list : List PacketName) (number : ℕ) (left : Left) (blocks : List Block) (pieces : List Body) (e : StreamFault) → IsTask b s g list → length list ≤ number
+    → IsFront b s g.tile (take number list) left blocks → pieces ≡ head_pieces s g.tile → HasCause (λ f. left_fault pieces left ≡ Some f) e → HasCause (BreaksTile b s g.tile) e
+left_over b s g list number left blocks pieces e task ge front pieces_are broken =
     let L : List PacketName → Type 0 = λ xs. IsListOf s g.tile xs in
-    cause_rule (BreaksTile b s g.tile) 31 body.at e same (record {
+    let same : left_fault (head_pieces s g.tile) front.mid ≡ left_fault pieces left =
+    left_same (head_pieces s g.tile) front.mid left front.due_are front.packed_is ∙ ap (λ (xs : List Body). left_fault xs left) (sym pieces_are) in
+    cause_on (λ f. left_fault pieces left ≡ Some f) (BreaksTile b s g.tile) e (λ f h. record {
       cuts = front.cuts;
       rest = [];
       order = subst L (sym (append-nil (names_of front.cuts) ∙ all_is list (names_of front.cuts) number front.names ge)) task.order;
       left = front.mid;
       are = front.are;
-      stops = record { body = body; later = later; due_is = front.due_are ∙ due_is; fault_is = refl };
-    })
+      stops = same ∙ h;
+    }) broken
 
 -- a rule is violated in the packet that is due
-pub due_breaks : (b : List ℕ) (s : Stream) (g : Geometry) (list : List PacketName) (number : ℕ) (left : Left) (blocks : List Block) (d : PacketName) (body : Body) (later : List Body) (w : List ℕ) (states : List State) (n : ℕ) (e : StreamFault)
-    → IsTask b s g list → number < length list → IsFront b s g.tile (take number list) left blocks → due left.bodies ≡ body ∷ later → w ≡ window b body → states ≡ left.states
-    → n ≡ number_of g (get_or list number d) → n < length states → HasCause (Breaks w body.at number (state_at states n)) e → HasCause (BreaksTile b s g.tile) e
-due_breaks b s g list number left blocks d body later w states n e task lt front due_is window_is es en there breaks =
+due_same : (old new : Left) → due old.bodies ≡ due new.bodies → old.end ≡ new.end → due_or old.end (due old.bodies) ≡ due_or new.end (due new.bodies)
+due_same old new bodies end = ap (λ (n : ℕ). due_or n (due old.bodies)) end ∙ ap (due_or new.end) bodies
+
+pub due_breaks : (b : List ℕ) (s : Stream) (g : Geometry) (list : List PacketName) (number : ℕ) (left : Left) (blocks : List Block) (d : PacketName) (body : Body) (later : List Body) (packed : Option (List ℕ)) (w : List ℕ) (states : List State) (n : ℕ) (e : StreamFault)
+    → IsTask b s g list → number < length list → IsFront b s g.tile (take number list) left blocks → due_or left.end (due left.bodies) ≡ body ∷ later → w ≡ window b body
+    → packed ≡ left.packed → states ≡ left.states → n ≡ number_of g (get_or list number d) → n < length states
+    → HasCause (Breaks packed w body.at number (state_at states n)) e → HasCause (BreaksTile b s g.tile) e
+due_breaks b s g list number left blocks d body later packed w states n e task lt front due_is window_is ep es en there breaks =
     let p : PacketName = get_or list number d in
     let L : List PacketName → Type 0 = λ xs. IsListOf s g.tile xs in
     let same : n ≡ number_of (geometry s g.tile) p = en ∙ ap (λ (x : Geometry). number_of x p) task.geometry_is in
     let long : length front.cuts ≡ number = done_long list front.cuts number front.names (omega arith) in
     let found : slice_get front.mid.states (number_of (geometry s g.tile) p) ≡ Some (state_at states n) =
     ap (λ (xs : List State). slice_get xs (number_of (geometry s g.tile) p)) (front.states_are ∙ sym es) ∙ ap (λ (m : ℕ). slice_get states m) (sym same) ∙ slice_get-get_or states n no_state there in
-    let W : StreamFault → List ℕ → Type 0 = λ f x. Breaks x body.at number (state_at states n) f in
-    let M : StreamFault → ℕ → Type 0 = λ f m. Breaks (window b body) body.at m (state_at states n) f in
-    cause_on (Breaks w body.at number (state_at states n)) (BreaksTile b s g.tile) e (λ f h. record {
+    let packed_is : packed ≡ front.mid.packed = ep ∙ sym front.packed_is in
+    let W : StreamFault → List ℕ → Type 0 = λ f x. Breaks packed x body.at number (state_at states n) f in
+    let P : StreamFault → Option (List ℕ) → Type 0 = λ f x. Breaks x (window b body) body.at number (state_at states n) f in
+    let M : StreamFault → ℕ → Type 0 = λ f m. Breaks front.mid.packed (window b body) body.at m (state_at states n) f in
+    cause_on (Breaks packed w body.at number (state_at states n)) (BreaksTile b s g.tile) e (λ f h. record {
       cuts = front.cuts;
       rest = p ∷ drop (number + 1) list;
       order = subst L (rest_is list (names_of front.cuts) number d front.names lt) task.order;
       left = front.mid;
       are = front.are;
-      stops = inr (record { body = body; later = later; due_is = front.due_are ∙ due_is; state = state_at states n; known = found; breaks = subst (M f) (sym long) (subst (W f) window_is h) });
+      stops = record {
+        body = body;
+        later = later;
+        due_is = due_same front.mid left front.due_are front.end_is ∙ due_is;
+        state = state_at states n;
+        known = found;
+        breaks = subst (M f) (sym long) (subst (P f) packed_is (subst (W f) window_is h));
+      };
     }) breaks
 
 -- ---- a packet that is read
 pub record Step (b : List ℕ) (g : Geometry) (number : ℕ) (left : Left) (p : PacketName) (packet : Packet) (after : State) (new : Left) : Type 0 where
   pub body : Body
   pub later : List Body
-  pub due_is : due left.bodies ≡ body ∷ later
+  pub due_is : due_or left.end (due left.bodies) ≡ body ∷ later
   pub n : ℕ
   pub number_is : n ≡ number_of g p
   pub there : n < length left.states
-  pub cut : IsCut (window b body) number (state_at left.states n) (cut_of p packet after)
+  pub cut : IsCut left.packed (window b body) number (state_at left.states n) (cut_of p packet after)
   pub bodies_are : new.bodies ≡ behind body packet.count ∷ later
+  pub end_is : new.end ≡ left.end
+  pub packed_is : new.packed ≡ packed_behind left.packed packet.used
   pub states_are : new.states ≡ set left.states n after
 
-pub step_made : (b : List ℕ) (g : Geometry) (number : ℕ) (left : Left) (p : PacketName) (packet : Packet) (after : State) (new : Left) (body : Body) (later : List Body) (w : List ℕ) (states read : List State) (n : ℕ)
-    → due left.bodies ≡ body ∷ later → n ≡ number_of g p → states ≡ left.states → n < length states → w ≡ window b body
-    → IsCut w number (state_at states n) (cut_of p packet (state_at read n)) → after ≡ state_at read n → read ≡ set states n (state_at read n)
-    → new.bodies ≡ behind body packet.count ∷ later → new.states ≡ read → Step b g number left p packet after new
-step_made b g number left p packet after new body later w states read n due_is en es there window_is cut after_is read_is bodies_are states_are =
-    let W : List ℕ → Type 0 = λ x. IsCut x number (state_at states n) (cut_of p packet (state_at read n)) in
-    let S : List State → Type 0 = λ xs. IsCut (window b body) number (state_at xs n) (cut_of p packet (state_at read n)) in
-    let A : State → Type 0 = λ x. IsCut (window b body) number (state_at left.states n) (cut_of p packet x) in
+pub step_made : (b : List ℕ) (g : Geometry) (number : ℕ) (left : Left) (p : PacketName) (packet : Packet) (after : State) (new : Left) (body : Body) (later : List Body) (packed : Option (List ℕ)) (w : List ℕ) (states read : List State) (n : ℕ)
+    → due_or left.end (due left.bodies) ≡ body ∷ later → n ≡ number_of g p → packed ≡ left.packed → states ≡ left.states → n < length states → w ≡ window b body
+    → IsCut packed w number (state_at states n) (cut_of p packet (state_at read n)) → after ≡ state_at read n → read ≡ set states n (state_at read n)
+    → new.bodies ≡ behind body packet.count ∷ later → new.end ≡ left.end → new.packed ≡ packed_behind packed packet.used → new.states ≡ read → Step b g number left p packet after new
+step_made b g number left p packet after new body later packed w states read n due_is en ep es there window_is cut after_is read_is bodies_are end_is packed_is states_are =
+    let W : List ℕ → Type 0 = λ x. IsCut packed x number (state_at states n) (cut_of p packet (state_at read n)) in
+    let P : Option (List ℕ) → Type 0 = λ x. IsCut x (window b body) number (state_at states n) (cut_of p packet (state_at read n)) in
+    let S : List State → Type 0 = λ xs. IsCut left.packed (window b body) number (state_at xs n) (cut_of p packet (state_at read n)) in
+    let A : State → Type 0 = λ x. IsCut left.packed (window b body) number (state_at left.states n) (cut_of p packet x) in
     let T : List State → Type 0 = λ xs. n < length xs in
     record {
       body = body;
@@ -244,8 +322,10 @@ step_made b g number left p packet after new body later w states read n due_is e
       n = n;
       number_is = en;
       there = subst T es there;
-      cut = subst A (sym after_is) (subst S es (subst W window_is cut));
+      cut = subst A (sym after_is) (subst S es (subst P ep (subst W window_is cut)));
       bodies_are = bodies_are;
+      end_is = end_is;
+      packed_is = packed_is ∙ ap (λ (x : Option (List ℕ)). packed_behind x packet.used) ep;
       states_are = states_are ∙ read_is ∙ ap (λ (xs : List State). set xs n (state_at read n)) es ∙ ap (λ (x : State). set left.states n x) (sym after_is);
     }
 
@@ -258,17 +338,23 @@ next_front b s g list number left blocks d packet after new more task lt front s
     let c : Cut = cut_of p packet after in
     let same : step.n ≡ number_of (geometry s t) p = step.number_is ∙ ap (λ (x : Geometry). number_of x p) task.geometry_is in
     let long : length front.cuts ≡ number = done_long list front.cuts number front.names (omega arith) in
-    let mid : Left = record { bodies = behind step.body packet.count ∷ step.later; states = set front.mid.states (number_of (geometry s t) p) after } in
+    let mid : Left = record {
+      bodies = behind step.body packet.count ∷ step.later;
+      end = front.mid.end;
+      packed = packed_behind front.mid.packed packet.used;
+      states = set front.mid.states (number_of (geometry s t) p) after;
+    } in
     let found : slice_get front.mid.states (number_of (geometry s t) p) ≡ Some (state_at left.states step.n) =
     ap (λ (xs : List State). slice_get xs (number_of (geometry s t) p)) front.states_are ∙ ap (λ (m : ℕ). slice_get left.states m) (sym same) ∙ slice_get-get_or left.states step.n no_state step.there in
-    let M : ℕ → Type 0 = λ m. IsCut (window b step.body) m (state_at left.states step.n) c in
+    let P : Option (List ℕ) → Type 0 = λ x. IsCut x (window b step.body) number (state_at left.states step.n) c in
+    let M : ℕ → Type 0 = λ m. IsCut front.mid.packed (window b step.body) m (state_at left.states step.n) c in
     let turn : IsTurn b (geometry s t) (0 + length front.cuts) front.mid c mid = record {
       body = step.body;
       later = step.later;
-      due_is = front.due_are ∙ step.due_is;
+      due_is = due_same front.mid left front.due_are front.end_is ∙ step.due_is;
       state = state_at left.states step.n;
       known = found;
-      cut = (let e : number ≡ 0 + length front.cuts = omega arith in subst M e step.cut);
+      cut = (let e : number ≡ 0 + length front.cuts = omega arith in subst M e (subst P (sym front.packed_is) step.cut));
       new_is = refl;
     } in
     let base : List Block = blocks_of_tile s (geometry s t) [] in
@@ -276,8 +362,10 @@ next_front b s g list number left blocks d packet after new more task lt front s
       cuts = front.cuts ++ c ∷ [];
       names = names_on front.cuts c ∙ ap (λ (xs : List PacketName). xs ++ p ∷ []) front.names ∙ sym (take_more list number d lt);
       mid = mid;
-      are = cuts_on b (geometry s t) 0 (start s t) front.mid mid front.cuts c front.are turn;
+      are = cuts_on b (geometry s t) 0 (start b s t) front.mid mid front.cuts c front.are turn;
       due_are = ap due (sym step.bodies_are);
+      end_is = front.end_is ∙ sym step.end_is;
+      packed_is = ap (λ (x : Option (List ℕ)). packed_behind x packet.used) front.packed_is ∙ sym step.packed_is;
       states_are = ap (λ (xs : List State). set xs (number_of (geometry s t) p) after) front.states_are ∙ ap (λ (m : ℕ). set left.states m after) (sym same) ∙ sym step.states_are;
       blocks_are = put ∙ ap (λ (x : Geometry). put_all blocks (founds_from x p after packet.bytes.now packet.parts.items)) task.geometry_is
           ∙ ap (λ (xs : List Block). put_all xs (founds_in (geometry s t) c)) front.blocks_are
@@ -321,7 +409,7 @@ pub parts_there : (b : List ℕ) (g : Geometry) (number : ℕ) (left : Left) (p 
 parts_there b g number left p packet after new step =
     let count : ℕ = length (all_blocks (state_at left.states step.n).bands) in
     All-weaker (PartIn count) (λ (part : HeaderPart). part.block < count) (λ part in_it. in_it.inside) packet.parts.items
-    (part_inside (header_in (window b step.body)) (state_at left.states step.n) packet.parts.items packet.used after step.cut.header)
+    (part_inside (header_in left.packed (window b step.body)) (state_at left.states step.n) packet.parts.items packet.used after step.cut.header)
 
 pub can_put : (b : List ℕ) (s : Stream) (g : Geometry) (list : List PacketName) (number : ℕ) (left : Left) (blocks : List Block) (d : PacketName) (packet : Packet) (after : State) (new : Left)
     → IsTask b s g list → number < length list → IsFront b s g.tile (take number list) left blocks → Step b g number left (get_or list number d) packet after new
@@ -344,30 +432,32 @@ can_put b s g list number left blocks d packet after new task lt front step =
     }
 
 -- ---- all packets
-pub all_read : (b : List ℕ) (s : Stream) (g : Geometry) (list : List PacketName) (number : ℕ) (left : Left) (blocks : List Block) → IsTask b s g list → length list ≤ number
-    → IsFront b s g.tile (take number list) left blocks → due left.bodies ≡ [] → AreTileBlocks b s g.tile blocks
-all_read b s g list number left blocks task ge front none =
+pub all_read : (b : List ℕ) (s : Stream) (g : Geometry) (list : List PacketName) (number : ℕ) (left : Left) (blocks : List Block) (pieces : List Body) → IsTask b s g list → length list ≤ number
+    → IsFront b s g.tile (take number list) left blocks → pieces ≡ head_pieces s g.tile → left_fault pieces left ≡ None → AreTileBlocks b s g.tile blocks
+all_read b s g list number left blocks pieces task ge front pieces_are none =
     let L : List PacketName → Type 0 = λ xs. IsListOf s g.tile xs in (
       front.cuts,
       record {
         order = subst L (sym (all_is list (names_of front.cuts) number front.names ge)) task.order;
         end = front.mid;
         are = front.are;
-        none_left = front.due_are ∙ none;
+        none_left = left_same (head_pieces s g.tile) front.mid left front.due_are front.packed_is ∙ ap (λ (xs : List Body). left_fault xs left) (sym pieces_are) ∙ none;
       },
       front_blocks b s g list number left blocks task front,
     )
 
 -- no packet
 pub first_front : (b : List ℕ) (s : Stream) (g : Geometry) (left : Left) (blocks : List Block) → g ≡ geometry s g.tile → due left.bodies ≡ due (tile_at s g.tile).bodies
-    → left.states ≡ (start s g.tile).states → blocks ≡ blocks_of_tile s g [] → IsFront b s g.tile [] left blocks
+    → left.end ≡ (start b s g.tile).end → left.packed ≡ (start b s g.tile).packed → left.states ≡ (start b s g.tile).states → blocks ≡ blocks_of_tile s g [] → IsFront b s g.tile [] left blocks
 unfolding founds_of
-first_front b s g left blocks geometry_is bodies states same = record {
+first_front b s g left blocks geometry_is bodies end packed states same = record {
   cuts = [];
   names = refl;
-  mid = start s g.tile;
+  mid = start b s g.tile;
   are = refl;
   due_are = sym bodies;
+  end_is = sym end;
+  packed_is = sym packed;
   states_are = sym states;
   blocks_are = same ∙ ap (λ (x : Geometry). blocks_of_tile s x []) geometry_is;
 }
@@ -376,7 +466,7 @@ first_front b s g left blocks geometry_is bodies states same = record {
 after_kept : (b : List ℕ) (g : Geometry) (number : ℕ) (left : Left) (p : PacketName) (packet : Packet) (after : State) (new : Left) → (step : Step b g number left p packet after new)
     → length (all_blocks after.bands) ≡ length (all_blocks (state_at left.states step.n).bands)
 after_kept b g number left p packet after new step =
-    (packet_kept (header_in (window b step.body)) (state_at left.states step.n) packet.parts.items packet.used after step.cut.header).blocks
+    (packet_kept (header_in left.packed (window b step.body)) (state_at left.states step.n) packet.parts.items packet.used after step.cut.header).blocks
 
 pub after_parts : (b : List ℕ) (g : Geometry) (number : ℕ) (left : Left) (p : PacketName) (packet : Packet) (after : State) (new : Left) → (step : Step b g number left p packet after new)
     → All (λ (part : HeaderPart). part.block < length (all_blocks after.bands)) packet.parts.items
@@ -391,17 +481,24 @@ after_leaves b s g list number left blocks d packet after new task lt front step
     after_kept b g number left (get_or list number d) packet after new step
     ∙ (ready_at b s g list number left blocks d left.states step.n task lt front refl step.number_is).leaves_are
 
-pub next_inside : (b : List ℕ) (bodies : List Body) (body : Body) (later : List Body) (count : ℕ) (w : List ℕ) (new : List Body) → AreInside b bodies → due bodies ≡ body ∷ later → w ≡ window b body
-    → count ≤ length w → new ≡ behind body count ∷ later → AreInside b new
-next_inside b bodies body later count w new all due_is window_is few new_is =
+pub next_inside : (b : List ℕ) (old new : Left) (body : Body) (later : List Body) (count : ℕ) (w : List ℕ) → IsInside b old → due_or old.end (due old.bodies) ≡ body ∷ later → w ≡ window b body
+    → count ≤ length w → new.bodies ≡ behind body count ∷ later → new.end ≡ old.end → IsInside b new
+next_inside b old new body later count w inside due_is window_is few bodies_are end_is =
     let long : length w ≤ body.length = omega (arith, ap length window_is, length-take body.length (drop body.at b)) in
     let I : List Body → Type 0 = λ ys. AreInside b ys in
-    subst I (sym new_is) (behind_inside b body later count (omega arith) (inside_due b bodies body later all due_is))
+    let E : ℕ → Type 0 = λ n. n ≤ length b in
+    record {
+      bodies = subst I (sym bodies_are) (behind_inside b body later count (omega arith) (inside_turn b old body later inside due_is));
+      end = subst E (sym end_is) inside.end;
+    }
 
-pub first_inside : (b : List ℕ) (bodies all : List Body) → AreInside b bodies → all ≡ record { at = 0; length = 0 } ∷ bodies → AreInside b all
-first_inside b bodies all inside is =
+pub first_inside : (b : List ℕ) (bodies : List Body) (left : Left) → AreInside b bodies → left.bodies ≡ record { at = 0; length = 0 } ∷ bodies → left.end ≤ length b → IsInside b left
+first_inside b bodies left inside is end =
     let I : List Body → Type 0 = λ ys. AreInside b ys in
-    subst I (sym is) (All-cons (λ (y : Body). y.at + y.length ≤ length b) (record { at = 0; length = 0 }) bodies (omega arith) inside)
+    record {
+      bodies = subst I (sym is) (All-cons (λ (y : Body). y.at + y.length ≤ length b) (record { at = 0; length = 0 }) bodies (omega arith) inside);
+      end = end;
+    }
 
 -- ---- what a call asks for beside a step
 pub window_short : (b : List ℕ) (body : Body) (w : List ℕ) → w ≡ window b body → length w ≤ body.length
@@ -413,9 +510,10 @@ window_fits b body later w fits inside is =
     let within : body.at + body.length ≤ length b = All-head (λ (y : Body). y.at + y.length ≤ length b) body later inside in
     omega (arith, low, within, fits)
 
-pub bytes_enough : (w : List ℕ) (number : ℕ) (k : State) (c : Cut) → IsCut w number k c → c.count ≤ length w → parts_length c.parts ≤ length c.bytes
-bytes_enough w number k c cut within =
-    omega (arith, cut.count_is, within, ap length cut.bytes_are, length-take (parts_length c.parts) (drop (front_length w c.used) w), length-drop (front_length w c.used) w)
+pub bytes_enough : (packed : Option (List ℕ)) (w : List ℕ) (number : ℕ) (k : State) (c : Cut) → IsCut packed w number k c → c.count ≤ length w → parts_length c.parts ≤ length c.bytes
+bytes_enough packed w number k c cut within =
+    let n : ℕ = front_length packed w c.used in
+    omega (arith, cut.count_is, within, ap length cut.bytes_are, length-take (parts_length c.parts) (drop n w), length-drop n w)
 
 pub still_there : (states read now : List State) (n : ℕ) (k : State) → n < length states → read ≡ set states n k → now ≡ read → n < length now
 still_there states read now n k there read_is now_is =

@@ -17,7 +17,7 @@ use Rattle.jx_codestream.specs.Shapes.{style_of}
 use Rattle.jx_geom.specs.Precincts.{leaves}
 use Rattle.jx_tier2_reader.specs.Fresh.{fresh_precinct, fresh_precincts}
 use Rattle.jx_geom.specs.Precincts.{HasPrecinct, precinct_number, leaf_number}
-use Rattle.jx_tier2_reader.specs.Data.{window, due, behind, header_in, front_length, parts_length}
+use Rattle.jx_tier2_reader.specs.Data.{window, due, due_or, behind, header_in, front_length, parts_length}
 use Rattle.jx_tier2_reader.specs.Cuts.{Cut, Left, IsTurn, AreCuts, number_of}
 use Rattle.jx_tier2_reader.specs.Blocks.{FoundPiece, told_zero, founds_from, founds_in, founds_of, own_founds, pieces_in}
 use Rattle.jx_tier2_reader.proofs.NumberLemmas.{precinct_there}
@@ -81,7 +81,7 @@ other_after b g number old c new i t ne =
     ∙ get-set_other old.states (number_of g c.name) i c.after (λ (e : i ≡ number_of g c.name). ne (sym e))
 
 turn_kept : (b : List ℕ) (g : Geometry) (number : ℕ) (old : Left) (c : Cut) (new : Left) → (t : IsTurn b g number old c new) → Kept c.after t.state
-turn_kept b g number old c new t = packet_kept (header_in (window b t.body)) t.state c.parts c.used c.after t.cut.header
+turn_kept b g number old c new t = packet_kept (header_in old.packed (window b t.body)) t.state c.parts c.used c.after t.cut.header
 
 pub turn_follows : (b : List ℕ) (s : Stream) (g : Geometry) (number : ℕ) (old : Left) (c : Cut) (new : Left) → AllFollow s g old.states → IsTurn b g number old c new → AllFollow s g new.states
 turn_follows b s g number old c new all t d r k there = by (cases_eq (number_of g c.name) (precinct_number g d r k)) (all d r k there)
@@ -116,7 +116,7 @@ turn_inside b s g number old c new all there t =
     let f = own_follows b s g number old c new all there t in
     subst (λ (n : ℕ). AreInside n c.parts) f.count
     (inside_from (length (all_blocks t.state.bands)) c.parts
-    (recursion_from_All (PartIn (length (all_blocks t.state.bands))) c.parts (part_inside (header_in (window b t.body)) t.state c.parts c.used c.after t.cut.header)))
+    (recursion_from_All (PartIn (length (all_blocks t.state.bands))) c.parts (part_inside (header_in old.packed (window b t.body)) t.state c.parts c.used c.after t.cut.header)))
 
 -- ---- the pieces of a turn
 pub parts_apart : (g : Geometry) (p : PacketName) (j : ℕ) (parts : List HeaderPart) → GeometryInRange g → HasPrecinct g p.comp p.res p.precinct → j < leaves g p.comp p.res p.precinct →
@@ -150,14 +150,14 @@ turn_grows b s g number j old c new h all there lt t =
     let style : ℕ = style_of s g.tile p.comp in
     let planes : ℕ = planes_of (fresh_precinct s g p.comp p.res p.precinct).bands j in
     let goes : Goes t.state.style (planes_of t.state.bands j) (own_parts j c.parts) (known_in t.state.bands j) (known_in c.after.bands j) =
-    packet_goes (header_in w) t.state c.parts c.used c.after t.cut.header j (subst (λ (n : ℕ). j < n) (sym f.count) lt) in
+    packet_goes (header_in old.packed w) t.state c.parts c.used c.after t.cut.header j (subst (λ (n : ℕ). j < n) (sym f.count) lt) in
     let styled : Goes style (planes_of t.state.bands j) (own_parts j c.parts) (known_in t.state.bands j) (known_in c.after.bands j) =
     subst (λ (n : ℕ). Goes n (planes_of t.state.bands j) (own_parts j c.parts) (known_in t.state.bands j) (known_in c.after.bands j)) f.style goes in
     let planed : Goes style planes (own_parts j c.parts) (known_in t.state.bands j) (known_in c.after.bands j) =
     subst (λ (n : ℕ). Goes style n (own_parts j c.parts) (known_in t.state.bands j) (known_in c.after.bands j)) (f.planes j) styled in
     let apart = parts_apart g p j c.parts h there lt (turn_inside b s g number old c new all there t) in
-    let grows = packet_grows g p style planes j (0 + front_length w c.used) c.after (known_in t.state.bands j) (known_in c.after.bands j) (drop (front_length w c.used) w) c.parts apart
-    (body_marks w 0 c.used c.parts t.cut.body) planed (λ (z : ℕ) (e : (known_in c.after.bands j).zero ≡ Some z). ap told_zero e) in
+    let grows = packet_grows g p style planes j (0 + front_length old.packed w c.used) c.after (known_in t.state.bands j) (known_in c.after.bands j) (drop (front_length old.packed w c.used) w) c.parts apart
+    (body_marks old.packed w 0 c.used c.parts t.cut.body) planed (λ (z : ℕ) (e : (known_in c.after.bands j).zero ≡ Some z). ap told_zero e) in
     subst (λ (l : List ℕ). Grows style planes p.layer (own_founds (leaf_number g p.comp p.res p.precinct j) (founds_from g p c.after l c.parts)) (known_in t.state.bands j) (known_in c.after.bands j)
     × HaveTop p.layer (own_founds (leaf_number g p.comp p.res p.precinct j) (founds_from g p c.after l c.parts)))
     (sym t.cut.bytes_are) grows
@@ -319,16 +319,20 @@ due_together (body ∷ later) = by (body.length == 0) refl (due_together later)
         omega arith
     by false e again = refl
 
+due_or_together : (at : ℕ) (bodies : List Body) → together (due_or at bodies) ≡ together bodies
+due_or_together at [] = together_cons (record { at = at; length = 0 }) []
+due_or_together at (body ∷ later) = refl
+
 turn_takes : (b : List ℕ) (g : Geometry) (number : ℕ) (old : Left) (c : Cut) (new : Left) → IsTurn b g number old c new → bytes_in (pieces_in (founds_in g c)) + together new.bodies ≤ together old.bodies
 turn_takes b g number old c new t =
     let from : bytes_in (pieces_in (founds_from g c.name c.after c.bytes c.parts)) ≤ length c.bytes = bytes_from g c.name c.after c.bytes c.parts in
-    let bytes : length c.bytes ≡ length (take (parts_length c.parts) (drop (front_length (window b t.body) c.used) (window b t.body))) = ap length t.cut.bytes_are in
-    let short : length (take (parts_length c.parts) (drop (front_length (window b t.body) c.used) (window b t.body))) ≡ min (parts_length c.parts) (length (drop (front_length (window b t.body) c.used) (window b t.body))) =
-    length-take (parts_length c.parts) (drop (front_length (window b t.body) c.used) (window b t.body)) in
-    let fits : front_length (window b t.body) c.used + parts_length c.parts ≤ length (window b t.body) = body_fits (window b t.body) 0 c.used c.parts t.cut.body in
+    let bytes : length c.bytes ≡ length (take (parts_length c.parts) (drop (front_length old.packed (window b t.body) c.used) (window b t.body))) = ap length t.cut.bytes_are in
+    let short : length (take (parts_length c.parts) (drop (front_length old.packed (window b t.body) c.used) (window b t.body))) ≡ min (parts_length c.parts) (length (drop (front_length old.packed (window b t.body) c.used) (window b t.body))) =
+    length-take (parts_length c.parts) (drop (front_length old.packed (window b t.body) c.used) (window b t.body)) in
+    let fits : front_length old.packed (window b t.body) c.used + parts_length c.parts ≤ length (window b t.body) = body_fits old.packed (window b t.body) 0 c.used c.parts t.cut.body in
     let wide : length (take t.body.length (drop t.body.at b)) ≡ min t.body.length (length (drop t.body.at b)) = length-take t.body.length (drop t.body.at b) in
-    let count : c.count ≡ front_length (window b t.body) c.used + parts_length c.parts = t.cut.count_is in
-    let before : together old.bodies ≡ t.body.length + together t.later = sym (due_together old.bodies) ∙ ap together t.due_is ∙ together_cons t.body t.later in
+    let count : c.count ≡ front_length old.packed (window b t.body) c.used + parts_length c.parts = t.cut.count_is in
+    let before : together old.bodies ≡ t.body.length + together t.later = sym (due_together old.bodies) ∙ sym (due_or_together old.end (due old.bodies)) ∙ ap together t.due_is ∙ together_cons t.body t.later in
     let after : together new.bodies ≡ (t.body.length - c.count) + together t.later = ap (λ (l : Left). together l.bodies) t.new_is ∙ together_cons (behind t.body c.count) t.later in
     omega arith
 

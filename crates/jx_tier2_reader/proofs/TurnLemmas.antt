@@ -1,5 +1,5 @@
 -- Packets in their turn: when a packet is due, its precinct's state is at its layer.
-use Rattle.std.proofs.Common.{◌≡◌, ℕ, ◌+◌, ◌<◌, ◌≤◌, List, [], ◌∷◌, ◌++◌, Some, inl, inr, ◌∙◌, ap, sym, subst, refl, arith, length, set, take, drop, append-nil, length-drop, length-take}
+use Rattle.std.proofs.Common.{◌≡◌, ℕ, ◌+◌, ◌<◌, ◌≤◌, List, [], ◌∷◌, ◌++◌, ◌-◌, Option, None, Some, inl, inr, ◌∙◌, ap, sym, subst, refl, arith, length, set, take, drop, append-nil, length-drop, length-take}
 use Rattle.std.specs.Prelude.{◌↔◌, slice_get}
 use Rattle.std.specs.List.{AllPairs, Contains}
 use Rattle.std.proofs.lemmas.Bool.{cases_lt, cases_eq}
@@ -18,7 +18,7 @@ use Rattle.jx_codestream.specs.declared.Stream.{Stream}
 use Rattle.jx_codestream.specs.Shapes.{geometry, layers_of, tile_at, style_of}
 use Rattle.jx_tier2_reader.specs.Fresh.{fresh_precinct, fresh_precincts}
 use Rattle.jx_geom.specs.Precincts.{HasPrecinct, precinct_number}
-use Rattle.jx_tier2_reader.specs.Data.{window, header_in, sop_length}
+use Rattle.jx_tier2_reader.specs.Data.{window, eph_length, header_in, packed_behind, sop_length}
 use Rattle.jx_tier2_reader.specs.Cuts.{Cut, Left, IsTurn, AreCuts, names_of, number_of}
 use Rattle.jx_tile.specs.Covered.{IsListOf, IsWhole}
 use Rattle.jx_tier2_reader.specs.Gathered.{start}
@@ -63,7 +63,7 @@ pub record Turned (g : Geometry) (layers : ℕ) (done : List PacketName) (states
   pub layers_are : (l : ℕ) → l < layers → (l < state.layer) ↔ Contains done (name_of l r c k)
 
 pub start_turned : (s : Stream) (t layers c r k : ℕ) → Precincts s (geometry s t) → HasPrecinct (geometry s t) c r k
-    → Turned (geometry s t) layers [] (start s t).states c r k (fresh_precinct s (geometry s t) c r k)
+    → Turned (geometry s t) layers [] (fresh_precincts s (geometry s t)) c r k (fresh_precinct s (geometry s t) c r k)
 start_turned s t layers c r k p has = record {
   known = p.there c r k has;
   layers_are = λ l lt. (λ h. absurd (omega (arith, h)), λ h. absurd (contains_none (name_of l r c k) h));
@@ -80,7 +80,7 @@ pub record Known (s : Stream) (g : Geometry) (layers : ℕ) (done : List PacketN
 abbrev pub AllKnown : Stream → Geometry → ℕ → List PacketName → List State → Type 0
 AllKnown s g layers done states = (c r k : ℕ) → HasPrecinct g c r k → Known s g layers done states c r k
 
-pub start_known : (s : Stream) (t layers : ℕ) → Precincts s (geometry s t) → AllKnown s (geometry s t) layers [] (start s t).states
+pub start_known : (s : Stream) (t layers : ℕ) → Precincts s (geometry s t) → AllKnown s (geometry s t) layers [] (fresh_precincts s (geometry s t))
 start_known s t layers p c r k has = record {
   state = fresh_precinct s (geometry s t) c r k;
   turned = start_turned s t layers c r k p has;
@@ -146,16 +146,30 @@ layer_is g layers list done rest p states state h e k =
     ]
 
 -- ---- one turn
-pub header_few : (w : List ℕ) → length (header_in w) ≤ length w
-unfolding header_in
-header_few w = let e = length-drop (sop_length w) w in omega arith
+-- packed headers of which at most as many bytes are left as a file has
+abbrev pub AreFew : List ℕ → Option (List ℕ) → Type 0
+AreFew b None = Unit {0}
+AreFew b (Some packed) = length packed ≤ length b
 
-pub window_few : (b : List ℕ) (body : Body) → length (header_in (window b body)) ≤ length b
-window_few b body =
-    let h = header_few (window b body) in
+pub header_few : (b : List ℕ) (packed : Option (List ℕ)) (body : Body) → AreFew b packed → length (header_in packed (window b body)) ≤ length b
+unfolding header_in
+header_few b None body few =
+    let h : length (drop (sop_length (window b body)) (window b body)) ≤ length (window b body) = (let e = length-drop (sop_length (window b body)) (window b body) in omega arith) in
     let d : length (drop body.at b) ≤ length b = (let e = length-drop body.at b in omega arith) in
     let t : length (take body.length (drop body.at b)) ≤ length (drop body.at b) = (let e = length-take body.length (drop body.at b) in omega arith) in
     omega arith
+header_few b (Some packed) body few = few
+
+few_behind : (b : List ℕ) (packed : Option (List ℕ)) (used : ℕ) → AreFew b packed → AreFew b (packed_behind packed used)
+few_behind b None used few = tt
+few_behind b (Some packed) used few =
+    let n : ℕ = used + eph_length (drop used packed) in
+    let e : length (drop n packed) ≡ length packed - n = length-drop n packed in
+    let was : length packed ≤ length b = few in
+    omega arith
+
+pub few_after : (b : List ℕ) (g : Geometry) (number : ℕ) (old : Left) (c : Cut) (new : Left) → IsTurn b g number old c new → AreFew b old.packed → AreFew b new.packed
+few_after b g number old c new t few = subst (AreFew b) (sym (ap (λ (l : Left). l.packed) t.new_is)) (few_behind b old.packed c.used few)
 
 pub layer_after : (h : List ℕ) (k : State) (parts : List HeaderPart) (used : ℕ) (after : State) → IsPacket h k parts used after → after.layer ≡ k.layer + 1
 layer_after h k parts used after p = ap (λ (x : State). x.layer) p.after_is
@@ -173,7 +187,7 @@ pub own_turned : (b : List ℕ) (g : Geometry) (layers : ℕ) (list done rest : 
     → Turned g layers (done ++ c.name ∷ []) new.states c.name.comp c.name.res c.name.precinct c.after
 own_turned b g layers list done rest number old c new state h e k t =
     let p : PacketName = c.name in
-    let layer : c.after.layer ≡ t.state.layer + 1 = layer_after (header_in (window b t.body)) t.state c.parts c.used c.after t.cut.header in
+    let layer : c.after.layer ≡ t.state.layer + 1 = layer_after (header_in old.packed (window b t.body)) t.state c.parts c.used c.after t.cut.header in
     let same : state ≡ t.state = turn_state b g layers done number old c new state k t in
     let at : state.layer ≡ p.layer = layer_is g layers list done rest p old.states state h e k in
     let next : c.after.layer ≡ p.layer + 1 = (let l : state.layer ≡ t.state.layer = ap (λ (x : State). x.layer) same in omega arith) in
@@ -197,11 +211,11 @@ own_turned b g layers list done rest number old c new state h e k t =
     }
 
 own_known : (b : List ℕ) (s : Stream) (g : Geometry) (layers : ℕ) (list done rest : List PacketName) (number : ℕ) (old : Left) (c : Cut) (new : Left) → Keeps b → Listed g layers list
-    → list ≡ done ++ (c.name ∷ rest) → Known s g layers done old.states c.name.comp c.name.res c.name.precinct → IsTurn b g number old c new
+    → list ≡ done ++ (c.name ∷ rest) → Known s g layers done old.states c.name.comp c.name.res c.name.precinct → AreFew b old.packed → IsTurn b g number old c new
     → Known s g layers (done ++ c.name ∷ []) new.states c.name.comp c.name.res c.name.precinct
-own_known b s g layers list done rest number old c new keeps h e k t =
+own_known b s g layers list done rest number old c new keeps h e k few t =
     let same : k.state ≡ t.state = turn_state b g layers done number old c new k.state k.turned t in
-    let kept = keeps.kept (header_in (window b t.body)) t.state c.parts c.used c.after (window_few b t.body)
+    let kept = keeps.kept (header_in old.packed (window b t.body)) t.state c.parts c.used c.after (header_few b old.packed t.body few)
     (let I : State → Type 0 = λ x. IsState x in subst I same k.is) t.cut.header in
     record {
       state = c.after;
@@ -246,12 +260,12 @@ each_precinct s g layers p P places is here others d r k has = elim (cases_eq (n
 
 pub turn_known : (b : List ℕ) (s : Stream) (g : Geometry) (layers : ℕ) (list done rest : List PacketName) (number : ℕ) (old : Left) (c : Cut) (new : Left)
     → Precincts s g → Keeps b → Listed g layers list → list ≡ done ++ (c.name ∷ rest)
-    → AllKnown s g layers done old.states → IsTurn b g number old c new → AllKnown s g layers (done ++ c.name ∷ []) new.states
-turn_known b s g layers list done rest number old c new places keeps h e all t =
+    → AllKnown s g layers done old.states → AreFew b old.packed → IsTurn b g number old c new → AllKnown s g layers (done ++ c.name ∷ []) new.states
+turn_known b s g layers list done rest number old c new places keeps h e all few t =
     let p : PacketName = c.name in
     let is : IsPacketName g layers p = due_named g layers list done rest p h e in
     each_precinct s g layers p (λ d r k. Known s g layers (done ++ p ∷ []) new.states d r k) places is
-    (own_known b s g layers list done rest number old c new keeps h e (all p.comp p.res p.precinct (has_precinct g layers p is)) t)
+    (own_known b s g layers list done rest number old c new keeps h e (all p.comp p.res p.precinct (has_precinct g layers p is)) few t)
     (λ d r k has other. (let was = all d r k has in record {
       state = was.state;
       turned = other_turned b g layers done number old c new d r k was.state other t was.turned;
@@ -263,30 +277,30 @@ turn_known b s g layers list done rest number old c new places keeps h e all t =
 -- ---- packets one after another
 pub cuts_known : (b : List ℕ) (s : Stream) (g : Geometry) (layers : ℕ) (list done : List PacketName) (cuts : List Cut) (rest : List PacketName) (number : ℕ) (old new : Left)
     → Precincts s g → Keeps b → Listed g layers list → list ≡ done ++ (names_of cuts ++ rest)
-    → AllKnown s g layers done old.states → AreCuts b g number old cuts new → AllKnown s g layers (done ++ names_of cuts) new.states
-cuts_known b s g layers list done [] rest number old new places keeps h e all are =
+    → AllKnown s g layers done old.states → AreFew b old.packed → AreCuts b g number old cuts new → AllKnown s g layers (done ++ names_of cuts) new.states
+cuts_known b s g layers list done [] rest number old new places keeps h e all few are =
     let P : List PacketName → Type 0 = λ xs. AllKnown s g layers xs new.states in
     let Q : Left → Type 0 = λ x. AllKnown s g layers done x.states in
     subst P (sym (append-nil done)) (subst Q are all)
-cuts_known b s g layers list done (c ∷ cuts) rest number old new places keeps h e all are =
+cuts_known b s g layers list done (c ∷ cuts) rest number old new places keeps h e all few are =
     let P : List PacketName → Type 0 = λ xs. AllKnown s g layers xs new.states in
     let next : AllKnown s g layers (done ++ c.name ∷ []) are.0.states =
-    turn_known b s g layers list done (names_of cuts ++ rest) number old c are.0 places keeps h e all are.1 in
+    turn_known b s g layers list done (names_of cuts ++ rest) number old c are.0 places keeps h e all few are.1 in
     subst P (push_on done (names_of cuts) c.name)
     (cuts_known b s g layers list (done ++ c.name ∷ []) cuts rest (number + 1) are.0 new places keeps h
-    (e ∙ sym (push_on done (names_of cuts ++ rest) c.name)) next are.2)
+    (e ∙ sym (push_on done (names_of cuts ++ rest) c.name)) next (few_after b g number old c are.0 are.1 few) are.2)
 
 pub known_there : (b : List ℕ) (s : Stream) (t : ℕ) (list : List PacketName) (cuts : List Cut) (rest : List PacketName) (left : Left)
     → Precincts s (geometry s t) → Keeps b → Listed (geometry s t) (layers_of s t) list → list ≡ names_of cuts ++ rest
-    → AreCuts b (geometry s t) 0 (start s t) cuts left → AllKnown s (geometry s t) (layers_of s t) (names_of cuts) left.states
-known_there b s t list cuts rest left places keeps h e are =
-    cuts_known b s (geometry s t) (layers_of s t) list [] cuts rest 0 (start s t) left places keeps h e (start_known s t (layers_of s t) places) are
+    → AreFew b (start b s t).packed → AreCuts b (geometry s t) 0 (start b s t) cuts left → AllKnown s (geometry s t) (layers_of s t) (names_of cuts) left.states
+known_there b s t list cuts rest left places keeps h e few are =
+    cuts_known b s (geometry s t) (layers_of s t) list [] cuts rest 0 (start b s t) left places keeps h e (start_known s t (layers_of s t) places) few are
 
 pub in_turn : (b : List ℕ) (s : Stream) (t : ℕ) (list : List PacketName) (cuts : List Cut) (p : PacketName) (rest : List PacketName) (left : Left) (state : State)
     → Precincts s (geometry s t) → Keeps b → Listed (geometry s t) (layers_of s t) list → list ≡ names_of cuts ++ (p ∷ rest)
-    → AreCuts b (geometry s t) 0 (start s t) cuts left → slice_get left.states (number_of (geometry s t) p) ≡ Some state → state.layer ≡ p.layer
-in_turn b s t list cuts p rest left state places keeps h e are found =
-    let all = known_there b s t list cuts (p ∷ rest) left places keeps h e are in
+    → AreFew b (start b s t).packed → AreCuts b (geometry s t) 0 (start b s t) cuts left → slice_get left.states (number_of (geometry s t) p) ≡ Some state → state.layer ≡ p.layer
+in_turn b s t list cuts p rest left state places keeps h e few are found =
+    let all = known_there b s t list cuts (p ∷ rest) left places keeps h e few are in
     let own = has_precinct (geometry s t) (layers_of s t) p (due_named (geometry s t) (layers_of s t) list (names_of cuts) rest p h e) in
     let k = all p.comp p.res p.precinct own in
     let same : k.state ≡ state = same_state k.state state (sym k.turned.known ∙ found) in
@@ -323,17 +337,17 @@ turn_in b s g layers list done rest number old c new h e all t =
 
 pub cuts_in : (b : List ℕ) (s : Stream) (g : Geometry) (layers : ℕ) (list done : List PacketName) (cuts : List Cut) (rest : List PacketName) (number : ℕ) (old new : Left)
     → Precincts s g → Keeps b → Listed g layers list → list ≡ done ++ (names_of cuts ++ rest)
-    → AllKnown s g layers done old.states → AreCuts b g number old cuts new → AreInTurn b s g number old cuts new
-cuts_in b s g layers list done [] rest number old new places keeps h e all are = are
-cuts_in b s g layers list done (c ∷ cuts) rest number old new places keeps h e all are = (
+    → AllKnown s g layers done old.states → AreFew b old.packed → AreCuts b g number old cuts new → AreInTurn b s g number old cuts new
+cuts_in b s g layers list done [] rest number old new places keeps h e all few are = are
+cuts_in b s g layers list done (c ∷ cuts) rest number old new places keeps h e all few are = (
   are.0,
   turn_in b s g layers list done (names_of cuts ++ rest) number old c are.0 h e all are.1,
   cuts_in b s g layers list (done ++ c.name ∷ []) cuts rest (number + 1) are.0 new places keeps h (e ∙ sym (push_on done (names_of cuts ++ rest) c.name))
-      (turn_known b s g layers list done (names_of cuts ++ rest) number old c are.0 places keeps h e all are.1) are.2,
+      (turn_known b s g layers list done (names_of cuts ++ rest) number old c are.0 places keeps h e all few are.1) (few_after b g number old c are.0 are.1 few) are.2,
 )
 
 pub are_in_turn : (b : List ℕ) (s : Stream) (t : ℕ) (list : List PacketName) (cuts : List Cut) (rest : List PacketName) (left : Left)
     → Precincts s (geometry s t) → Keeps b → Listed (geometry s t) (layers_of s t) list → list ≡ names_of cuts ++ rest
-    → AreCuts b (geometry s t) 0 (start s t) cuts left → AreInTurn b s (geometry s t) 0 (start s t) cuts left
-are_in_turn b s t list cuts rest left places keeps h e are =
-    cuts_in b s (geometry s t) (layers_of s t) list [] cuts rest 0 (start s t) left places keeps h e (start_known s t (layers_of s t) places) are
+    → AreFew b (start b s t).packed → AreCuts b (geometry s t) 0 (start b s t) cuts left → AreInTurn b s (geometry s t) 0 (start b s t) cuts left
+are_in_turn b s t list cuts rest left places keeps h e few are =
+    cuts_in b s (geometry s t) (layers_of s t) list [] cuts rest 0 (start b s t) left places keeps h e (start_known s t (layers_of s t) places) few are

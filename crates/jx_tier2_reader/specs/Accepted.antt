@@ -1,4 +1,4 @@
--- Codestreams that are read whole: no rule from 1 to 31 is violated, and none of the limits 3 to 6 is passed.
+-- Codestreams that are read whole: no rule from 1 to 31 is violated, nor rule 37, and none of the limits 3 to 6 is passed.
 use Rattle.std.specs.Prelude.{◌≡◌, ℕ, List, None}
 use Rattle.jx_base.specs.declared.pieces.Block.{Block}
 use Rattle.jx_codestream.specs.declared.Stream.{Stream}

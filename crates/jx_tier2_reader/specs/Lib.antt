@@ -10,6 +10,7 @@ pub mod Carries
 pub mod Either
 pub mod Planned
 pub mod Another
+pub mod InPlace
 -- Inner: no other crate cites these.
 pub mod Blocks
 pub mod InRange

@@ -1,5 +1,6 @@
 -- Inner: what is read of a packet, as a packet that was cut off, and pieces that can be put to their blocks.
 use Rattle.std.specs.Prelude.{◌≡◌, ℕ, ◌+◌, ◌<◌, ◌≤◌, ◌^◌, List, [], length, Option, None, Some, slice_index_or}
+use Rattle.std.specs.Borrow.{Bor}
 use Rattle.std.specs.List.{All}
 use Rattle.jx_base.specs.declared.pieces.Block.{Block}
 use Rattle.jx_geom.specs.Geometry.{Geometry}
@@ -15,9 +16,9 @@ use Rattle.jx_codestream.specs.Shapes.{geometry, tile_at}
 use Rattle.jx_tier2_reader.specs.Data.{due}
 use Rattle.jx_tier2_reader.specs.Cuts.{Cut, Left, AreCuts, names_of}
 use Rattle.jx_tile.specs.Covered.{IsListOf, IsWhole}
-use Rattle.jx_tier2_reader.specs.Gathered.{start}
+use Rattle.jx_tier2_reader.specs.Gathered.{head_pieces, start}
 use Rattle.jx_codestream.specs.InRange.{StreamInRange}
-use Rattle.jx_tier2_reader.specs.InRange.{DataInRange}
+use Rattle.jx_tier2_reader.specs.InRange.{DataInRange, HeadsInRange}
 use Rattle.jx_tile.specs.Totals.{totals_fault}
 use Rattle.jx_tier2_reader.specs.Blocks.{FoundPiece, zero_in, founds_of, blocks_of_tile}
 use Rattle.jx_tier2_reader.specs.Put.{put_all}
@@ -51,17 +52,38 @@ no_state = record { style = 0; layer = 0; bands = [] }
 abbrev pub state_at : List State → ℕ → State
 state_at states i = slice_index_or states i no_state
 
+-- the items that an optional slice has
+abbrev pub seen : {X : Type 0} → Option (Bor (List X)) → Option (List X)
+seen None = None
+seen (Some slice) = Some slice.now
+
+-- packed headers, where a tile has such, have so many bytes
+abbrev pub HasBytes : Option (List ℕ) → ℕ → Type 0
+HasBytes None count = Unit {0}
+HasBytes (Some packed) count = count ≤ length packed
+
+-- pieces that end before 2^32
+abbrev pub AreShort : List Body → Type 0
+AreShort pieces = All (λ (piece : Body). piece.at + piece.length < 2 ^ 32) pieces
+
 -- data of tile-parts that lie in the file
 abbrev pub AreInside : List ℕ → List Body → Type 0
 AreInside b bodies = All (λ (body : Body). body.at + body.length ≤ length b) bodies
+
+-- what is left lies in the file
+pub record IsInside (b : List ℕ) (left : Left) : Type 0 where
+  pub bodies : AreInside b left.bodies
+  pub end : left.end ≤ length b
 
 -- these packets of a tile were read, and their pieces put to its blocks
 pub record IsFront (b : List ℕ) (s : Stream) (t : ℕ) (done : List PacketName) (left : Left) (blocks : List Block) : Type 0 where
   pub cuts : List Cut
   pub names : names_of cuts ≡ done
   pub mid : Left
-  pub are : AreCuts b (geometry s t) 0 (start s t) cuts mid
+  pub are : AreCuts b (geometry s t) 0 (start b s t) cuts mid
   pub due_are : due mid.bodies ≡ due left.bodies
+  pub end_is : mid.end ≡ left.end
+  pub packed_is : mid.packed ≡ left.packed
   pub states_are : mid.states ≡ left.states
   pub blocks_are : blocks ≡ put_all (blocks_of_tile s (geometry s t) []) (founds_of (geometry s t) cuts)
 
@@ -75,3 +97,4 @@ pub record IsTask (b : List ℕ) (s : Stream) (g : Geometry) (list : List Packet
   pub order : IsListOf s g.tile list
   pub whole : IsWhole s g.tile
   pub bodies : DataInRange b (tile_at s g.tile).bodies
+  pub heads : HeadsInRange b (head_pieces s g.tile)

@@ -1,4 +1,4 @@
--- Well-formed codestreams: no rule from 1 to 31 is violated. The limits are no part of it.
+-- Well-formed codestreams: no rule from 1 to 31 is violated, nor rule 37. The limits are no part of it.
 use Rattle.std.specs.Prelude.{ℕ, List}
 use Rattle.jx_base.specs.declared.pieces.Block.{Block}
 use Rattle.jx_codestream.specs.declared.Stream.{Stream}

@@ -1,7 +1,7 @@
 -- Tile data as a writer makes them: each packet has SOP or not, a header, EPH or not and its coded bytes (ITU-T T.800, A.8 and
 -- B.10); a tile's packets stand one after another, and tile-parts are cut between them (A.4.2). A precinct's packets are a
 -- chain over the layers, whatever stands between them.
-use Rattle.std.specs.Prelude.{◌≡◌, ◌+◌, ◌%◌, ℕ, Bool, List, [], ◌∷◌, ◌++◌, length, map, take, drop, if◌then◌else◌}
+use Rattle.std.specs.Prelude.{◌≡◌, ◌+◌, ◌%◌, ℕ, Bool, List, [], ◌∷◌, ◌++◌, length, map, take, drop, None, if◌then◌else◌}
 use Rattle.jx_base.specs.declared.pieces.Block.{Block}
 use Rattle.jx_base.specs.Joined.{joined}
 use Rattle.jx_base.specs.Markers.{HasNoMarker}
@@ -80,8 +80,9 @@ AreFilled b ps number (body ∷ bodies) [] = ⊥
 AreFilled b ps number (body ∷ bodies) (names ∷ groups) =
     (window b body ≡ bytes_from ps number names) × (body.length ≡ length (bytes_from ps number names)) × AreFilled b ps (number + length names) bodies groups
 
--- a tile's data are its packets in the order of its progression entries, cut into tile-parts between them
+-- a tile's data are its packets in the order of its progression entries, cut into tile-parts between them, each header in its place
 pub record IsLaid (b : List ℕ) (s : Stream) (t : ℕ) (ps : Packets) (groups : List (List PacketName)) : Type 0 where
+  pub in_place : (tile_at s t).heads ≡ None
   pub order : IsListOf s t (packets_in groups)
   pub written : AreWritten s t ps
   pub filled : AreFilled b ps 0 (tile_at s t).bodies groups

@@ -1,8 +1,10 @@
-//! SOP, EPH and the coded bytes of packets (ITU-T T.800, A.8 and B.10).
+//! SOP, EPH and the coded bytes of packets, and what their headers are read from (ITU-T T.800, A.7.4, A.7.5, A.8 and
+//! B.10).
 
 ghost use Rattle.std.specs.Prelude.{◌≡◌, ◌≢◌, ◌≤◌, ◌<◌, ◌+◌, ◌-◌, ◌^◌, length, IfErr, MatchOption};
 ghost use Rattle.jx_tile.specs.Faults.{Answers};
-ghost use Rattle.jx_tier2_reader.specs.Data.{begins_with, number_at, sop_fault, sop_length, eph_length, header_in, front_length, parts_length, is_marked, has_mark_below, first_mark, marks_fault, body_fault};
+ghost use Rattle.jx_tier2_reader.specs.Data.{begins_with, number_at, sop_fault, sop_length, eph_length, eph_fault, is_eph_cut, header_in, front_length, packed_behind, parts_length, is_marked, has_mark_below, first_mark, marks_fault, body_fault};
+ghost use Rattle.jx_tier2_reader.specs.Reading.{HasBytes, seen};
 
 use crate::StreamFault;
 use jx_codestream::violated;
@@ -54,17 +56,63 @@ fn eph_length(bytes: &[u8]) -> usize
     if begins_with(bytes, EPH) { 2 } else { 0 }
 }
 
-/// How many bytes stand before the coded bytes of a packet: a SOP of so many, its header of so many, and EPH.
-#[tactic(auto, unfolding(crate::specs::Data::front_length, crate::specs::Data::header_in))]
-fn front_length(bytes: &[u8], sop: usize, used: usize) -> usize
+/// What a packet's header stands in front of: what is left of the packed headers, where the tile has such, or what
+/// follows a SOP of so many bytes.
+#[tactic(auto, unfolding(crate::specs::Data::header_in))]
+pub(crate) fn header_in<'h>(packed: Option<&'h [u8]>, bytes: &'h [u8], sop: usize) -> &'h [u8]
     requires sop { sop ≡ sop_length bytes.now }
-    requires within { sop + used ≤ length bytes.now }
-    ensures is { result ≡ front_length bytes.now used }
+    requires within { sop ≤ length bytes.now }
+    ensures { result.now ≡ header_in (seen packed.entry) bytes.now }
+{
+    match packed {
+        Some(headers) => headers,
+        None => bytes.split_at(sop).1,
+    }
+}
+
+/// What is left of the packed headers, where the tile has such, behind a header of so many bytes and its EPH.
+pub(crate) fn packed_behind(packed: Option<&[u8]>, used: usize) -> Option<&[u8]>
+    requires { HasBytes (seen packed) used }
+    ensures { seen result ≡ packed_behind (seen packed.entry) used }
+{
+    let headers = packed?;
+    let eph = eph_length(headers.split_at(used).1);
+    Some(headers.split_at(used + eph).1)
+}
+
+/// How many bytes of the tile data stand before the coded bytes of a packet: a SOP of so many, and its header of so many
+/// and EPH where these stand there.
+#[tactic(auto, unfolding(crate::specs::Data::front_length, crate::specs::Data::header_in))]
+fn front_length(packed: Option<&[u8]>, bytes: &[u8], sop: usize, used: usize) -> usize
+    requires sop { sop ≡ sop_length bytes.now }
+    requires within { sop ≤ length bytes.now }
+    requires used { used ≤ length (header_in (seen packed) bytes.now) }
+    ensures is { result ≡ front_length (seen packed.entry) bytes.now used }
     ensures within { result ≤ length bytes.now }
 {
+    if packed.is_some() {
+        return sop;
+    }
     let header = bytes.split_at(sop).1;
     let behind = header.split_at(used).1;
     sop + used + eph_length(behind)
+}
+
+/// Finds rule 26 in an EPH that is cut short behind a packed header of so many bytes.
+fn check_eph(packed: Option<&[u8]>, at: usize, used: usize) -> Result<(), StreamFault>
+    requires used { HasBytes (seen packed) used }
+    requires place { at < 2 ^ 32 }
+    ensures answer { Answers result (eph_fault (seen packed.entry) at used) (λ _. Unit {0}) }
+    ensures memory { IfErr result (λ e. e ≢ StreamFault.NoMemory) }
+{
+    let Some(headers) = packed else {
+        return Ok(());
+    };
+    let behind = headers.split_at(used).1;
+    if behind.len() == 1 && behind[0] == 255 {
+        return Err(violated(rule_numbers::PACKET_HEADER, at));
+    }
+    Ok(())
 }
 
 /// How many coded bytes a packet has, None where they are more than there is room for.
@@ -145,10 +193,11 @@ fn check_marks(bytes: &[u8], at: usize, parts: &[HeaderPart]) -> Result<(), Stre
     Ok(())
 }
 
-/// How many bytes of a packet stand before its coded bytes, and how many coded bytes it has. Where those
-/// pass the end rule 28 is violated, and where a piece has a marker rule 30.
+/// How many bytes of the tile data stand before a packet's coded bytes, and how many coded bytes it has. Where its EPH
+/// is cut short rule 26 is violated, where those pass the end rule 28, and where a piece has a marker rule 30.
 #[tactic(auto, unfolding(crate::specs::Data::body_fault))]
 pub(crate) fn check_body(
+    packed: Option<&[u8]>,
     bytes: &[u8],
     at: usize,
     sop: usize,
@@ -156,13 +205,18 @@ pub(crate) fn check_body(
     parts: &[HeaderPart],
 ) -> Result<(usize, usize), StreamFault>
     requires sop { sop ≡ sop_length bytes.now }
-    requires within { sop + used ≤ length bytes.now }
+    requires within { sop ≤ length bytes.now }
+    requires used { used ≤ length (header_in (seen packed) bytes.now) }
     requires fits { at + length bytes.now < 2 ^ 32 }
-    ensures answer { Answers result (body_fault bytes.now at used parts.now)
-        (λ r. (r.0 ≡ front_length bytes.now used) × (r.1 ≡ parts_length parts.now) × (r.0 + r.1 ≤ length bytes.now)) }
+    ensures answer { Answers result (body_fault (seen packed.entry) bytes.now at used parts.now)
+        (λ r. (r.0 ≡ front_length (seen packed.entry) bytes.now used) × (r.1 ≡ parts_length parts.now) × (r.0 + r.1 ≤ length bytes.now)) }
     ensures memory { IfErr result (λ e. e ≢ StreamFault.NoMemory) }
 {
-    let front = front_length(bytes, sop, used);
+    match check_eph(packed, at, used) {
+        Ok(()) => {}
+        Err(fault) => return Err(fault),
+    }
+    let front = front_length(packed, bytes, sop, used);
     let coded = bytes.split_at(front).1;
     let Some(length) = parts_length(parts, coded.len()) else {
         return Err(violated(rule_numbers::PACKET_LENGTH, at));

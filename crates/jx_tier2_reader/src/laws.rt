@@ -1,13 +1,17 @@
 //! Laws of tile data. Each function's contract is a law over the definitions that `gather` cites, so its body does nothing but
 //! cite a law of the crates below.
 
-ghost use Rattle.std.specs.Prelude.{◌≡◌, ◌⊎◌, ◌≤◌, ◌<◌, ◌^◌, ℕ, List, None, length};
+ghost use Rattle.std.specs.Prelude.{◌≡◌, ◌⊎◌, ◌≤◌, ◌<◌, ◌^◌, ◌++◌, ℕ, List, None, Some, false, length};
 ghost use Rattle.std.specs.List.{All};
 ghost use Rattle.jx_base.specs.declared.pieces.Block.{Block};
 ghost use Rattle.jx_base.specs.Sound.{IsSound};
+ghost use Rattle.jx_marker.specs.Codes.{EPH};
 ghost use Rattle.jx_packet_header.specs.LeavesFit.{InTypes, LeavesFit};
+ghost use Rattle.jx_packet_header.specs.Packet.{State};
 ghost use Rattle.jx_progression.specs.declared.names.PacketName.{PacketName};
+ghost use Rattle.jx_codestream.specs.declared.Body.{Body};
 ghost use Rattle.jx_codestream.specs.declared.Stream.{Stream};
+ghost use Rattle.jx_geom.specs.Geometry.{Geometry};
 ghost use Rattle.jx_codestream.specs.First.{tile_number};
 ghost use Rattle.jx_codestream.specs.declared.faults.StreamFault.{StreamFault};
 ghost use Rattle.jx_codestream.specs.Read.{IsRead};
@@ -17,13 +21,17 @@ ghost use Rattle.jx_tier2_reader.specs.Either.{HasBlocks, HasFault};
 ghost use Rattle.jx_tile.specs.Covered.{IsListOf, IsWhole};
 ghost use Rattle.jx_tier2_reader.specs.Gathered.{IsBroken, IsCutUp, IsGathered};
 ghost use Rattle.jx_tier2_reader.specs.Another.{HaveSameBlocks};
+ghost use Rattle.jx_tier2_reader.specs.Blocks.{founds_of};
+ghost use Rattle.jx_tier2_reader.specs.Cuts.{AreCuts, Cut, IsCut, Left, names_of};
+ghost use Rattle.jx_tier2_reader.specs.Data.{begins_with, due};
+ghost use Rattle.jx_tier2_reader.specs.InPlace.{AreFilledBy, IsPlaced, all_of, placed, placed_all, placed_cut, placed_cuts};
 ghost use Rattle.jx_tier2_reader.specs.BlockOf.{AreBlocksOf};
 ghost use Rattle.jx_tile.specs.Cells.{precinct_bands};
 ghost use Rattle.jx_geom.specs.Precincts.{HasPrecinct};
 ghost use Rattle.jx_tier2_reader.specs.Carries.{AllCarry};
 ghost use Rattle.jx_tier2_reader.specs.Planned.{ArePlanned, leaves_of_blocks};
 ghost use Rattle.jx_tier2_reader.specs.WellFormed.{IsWellFormed};
-ghost use Rattle.jx_tier2_reader.specs.Written.{AreFilled, AreWritten, IsLaid, Packets, cuts_at, laid_blocks, packets_in};
+ghost use Rattle.jx_tier2_reader.specs.Written.{AreFilled, AreWritten, IsLaid, Packets, cuts_at, WrittenPacket, laid_blocks, packet_bytes, packets_in};
 ghost use Rattle.jx_base.specs.Limits.{most_bytes};
 
 use jx_progression::laws::orders_exist;
@@ -119,6 +127,28 @@ pub fn planned_is_gathered()
     ensures { (b : List ℕ) (s : Stream) (blocks : List Block) (packets : ℕ → Packets) (groups : ℕ → List (List PacketName)) → IsRead b s → totals_fault s ≡ None
         → AreBlocksOf s blocks → All IsSound blocks
         → ((t : ℕ) → t < tile_number s.siz → IsWhole s t) → ((t : ℕ) → t < tile_number s.siz → IsListOf s t (packets_in (groups t)))
+        → ((t : ℕ) → t < tile_number s.siz → (tile_at s t).heads ≡ None)
         → ((t : ℕ) → t < tile_number s.siz → AreFilled b (packets t) 0 (tile_at s t).bodies (groups t))
         → ((t : ℕ) → t < tile_number s.siz → ArePlanned s t blocks (packets t)) → IsGathered b s blocks }
+{}
+
+/// A packet whose header stands apart is cut off with the same parts, coded bytes and state where its header, with its
+/// EPH, stands in its place before its pieces, whatever follows that isn't an EPH (T.800, A.7.4, A.7.5, A.8 and B.10).
+pub fn placed_is_cut()
+    ensures { (packed w rest : List ℕ) (number : ℕ) (k : State) (c : Cut) → IsCut (Some packed) w number k c → begins_with rest EPH ≡ false
+        → IsCut None (packet_bytes number (placed packed w c) ++ rest) number k (placed_cut packed w c) }
+{}
+
+/// Tile data whose packet headers stand apart, and tile data in which each header, with its EPH, stands in its place
+/// before its packet's pieces, cut into tile-parts between packets, are cut up alike: into packets of the same names with
+/// the same parts, coded bytes and states, so the same pieces of blocks (T.800, A.7.4, A.7.5, B.9 and B.10).
+pub fn same_as_in_place()
+    ensures cut { (b file : List ℕ) (g : Geometry) (number : ℕ) (bodies : List Body) (old here : Left) (cuts : List Cut) (new : Left) (packed : List ℕ) (groups : List (List WrittenPacket))
+        (are : AreCuts b g number old cuts new) → old.packed ≡ Some packed → here.packed ≡ None → here.states ≡ old.states → due here.bodies ≡ due bodies
+        → AreFilledBy file number bodies groups → all_of groups ≡ placed_all b g number old cuts new are
+        → IsPlaced file g number here (placed_cuts b g number old cuts new are) }
+    ensures names { (b : List ℕ) (g : Geometry) (number : ℕ) (old : Left) (cuts : List Cut) (new : Left) (are : AreCuts b g number old cuts new)
+        → names_of (placed_cuts b g number old cuts new are) ≡ names_of cuts }
+    ensures pieces { (b : List ℕ) (g : Geometry) (number : ℕ) (old : Left) (cuts : List Cut) (new : Left) (are : AreCuts b g number old cuts new)
+        → founds_of g (placed_cuts b g number old cuts new are) ≡ founds_of g cuts }
 {}

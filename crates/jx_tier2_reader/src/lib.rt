@@ -5,6 +5,7 @@
 mod data;
 mod fresh;
 mod gathering;
+mod heads;
 pub mod laws;
 mod packet;
 mod pieces;

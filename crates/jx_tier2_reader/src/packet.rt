@@ -5,10 +5,10 @@ ghost use Rattle.jx_packet_header.specs.Packet.{IsPacket};
 ghost use Rattle.jx_packet_header.specs.Precinct.{IsState, all_blocks};
 ghost use Rattle.jx_tile.specs.Faults.{HasCause};
 ghost use Rattle.jx_tier2_reader.specs.Cuts.{IsCut, Breaks, BreaksHeader};
-ghost use Rattle.jx_tier2_reader.specs.Reading.{cut_of};
+ghost use Rattle.jx_tier2_reader.specs.Reading.{HasBytes, cut_of, seen};
 
 use crate::StreamFault;
-use crate::data::{check_body, read_sop};
+use crate::data::{check_body, header_in, read_sop};
 use jx_codestream::violated;
 use jx_marker::rule_numbers;
 use jx_packet_header::{HeadFault, HeaderPart, Precinct};
@@ -17,7 +17,7 @@ use jx_progression::PacketName;
 /// What stands in one packet.
 #[derive(Drop)]
 pub(crate) struct Packet<'a> {
-    /// How many bytes the packet has.
+    /// How many bytes the packet has in the tile data.
     pub(crate) count: usize,
     /// How many bytes its header has, without SOP and EPH.
     pub(crate) used: usize,
@@ -27,7 +27,7 @@ pub(crate) struct Packet<'a> {
     pub(crate) bytes: &'a [u8],
 }
 
-/// Reads the header of a layer's packet that begins at a place. One that is none violates rule 26 or 27.
+/// Reads the header of a layer's packet that begins at a place in the tile data. One that is none violates rule 26 or 27.
 fn read_head(
     precinct: &mut Precinct,
     layer: u16,
@@ -51,20 +51,23 @@ fn read_head(
 }
 
 /// Reads the packet of a name, with this number in its tile, at the front of the bytes that are left of a
-/// tile-part, which begin at a place. The precinct is given up after an `Err`.
+/// tile-part, which begin at a place, and of the packed headers, where the tile has such. The precinct is
+/// given up after an `Err`.
 pub(crate) fn read_packet<'a>(
     precinct: &mut Precinct,
     name: PacketName,
     number: usize,
+    packed: Option<&[u8]>,
     window: &'a [u8],
     at: usize,
 ) -> Result<Packet<'a>, StreamFault>
     requires state { IsState precinct.old }
     requires layer { precinct.old.layer ≡ name.layer }
     requires fits { at + length window.now < 2 ^ 32 }
-    ensures ok { IfOk result (λ p. IsCut window.now number precinct.old (cut_of name p precinct.new)) }
+    ensures ok { IfOk result (λ p. IsCut (seen packed.entry) window.now number precinct.old (cut_of name p precinct.new)) }
     ensures within { IfOk result (λ p. p.count ≤ length window.now) }
-    ensures err { IfErr result (λ e. HasCause (Breaks window.now at number precinct.old) e) }
+    ensures used { IfOk result (λ p. HasBytes (seen packed.entry) p.used) }
+    ensures err { IfErr result (λ e. HasCause (Breaks (seen packed.entry) window.now at number precinct.old) e) }
     ensures state { OnOk result (IsState precinct.new) }
     ensures blocks { OnOk result (length (all_blocks precinct.new.bands) ≡ length (all_blocks precinct.old.bands)) }
 {
@@ -72,12 +75,12 @@ pub(crate) fn read_packet<'a>(
         Ok(sop) => sop,
         Err(fault) => return Err(fault),
     };
-    let header = window.split_at(sop).1;
+    let header = header_in(packed, window, sop);
     let (parts, used) = match read_head(precinct, name.layer, header, at) {
         Ok(read) => read,
         Err(fault) => return Err(fault),
     };
-    let (front, length) = match check_body(window, at, sop, used, &parts) {
+    let (front, length) = match check_body(packed, window, at, sop, used, &parts) {
         Ok(lengths) => lengths,
         Err(fault) => return Err(fault),
     };

@@ -106,6 +106,10 @@ module _ (m : Marks) (s : Stream) (blocks : List Block) (b : List ℕ) (parts : 
       cover_same (geometry s t) (geometry now t) (layers_of s t) (layers_of now t) (tile_at s t).progressions (tile_at now t).progressions
       (geometry_is t) (layers_are t) (entries_are t lt) (ready_whole m s ready t lt)
 
+  -- what is written has no PPM and no PPT, so each header stands before its packet (not proved yet)
+  in_place : (t : ℕ) → t < tile_number s.siz → (tile_at now t).heads ≡ None
+  in_place t lt = ?
+
   packets_are : (t : ℕ) → packets_of m now t blocks ≡ packets_of m s t blocks
   packets_are t = packets_same s s.main now.tiles same_main same blocks t m
 
@@ -115,7 +119,7 @@ module _ (m : Marks) (s : Stream) (blocks : List Block) (b : List ℕ) (parts : 
   pub blocks_kept : AreBlocksOf s blocks → All IsSound blocks → IsGathered b now blocks
   blocks_kept are sound =
       planned_gathered b now blocks (λ t. packets_of m s t blocks) groups read_now totals_kept
-      (blocks_same s s.main now.tiles same_main same blocks are) sound whole_is list_is (filled m s blocks b parts groups ready cut short whole) (λ t lt. planned_now t)
+      (blocks_same s s.main now.tiles same_main same blocks are) sound whole_is list_is in_place (filled m s blocks b parts groups ready cut short whole) (λ t lt. planned_now t)
 
   cod_same : (t : ℕ) → cod_at now t ≡ cod_at s t
   cod_same t = ap cod_or (cod_alike (header_of now t) (header_of s t) (same t) s.main)

@@ -19,11 +19,15 @@ use Rattle.jx_codestream.specs.declared.Tile.{Tile}
 use Rattle.jx_codestream.specs.Faults.{broken, rule_at}
 use Rattle.jx_codestream.specs.First.{front_fault, tile_number, tiles_fault}
 use Rattle.jx_codestream.specs.FirstViolated.{IsFirst}
-use Rattle.jx_codestream.specs.Headers.{early_fault, is_second, segment_fault, stands_in}
+use Rattle.jx_codestream.specs.Headers.{early_fault, is_packed_twice, is_second, segment_fault, stands_in}
+use Rattle.jx_codestream.specs.PackedHeaders.{data_in_order, shares_fault, shares_fit}
+use Rattle.jx_codestream.specs.declared.Body.{Body}
+use Rattle.jx_codestream.specs.declared.packed.PackedSegment.{PackedSegment}
+use Rattle.jx_codestream.specs.declared.parts.PlacedPart.{PlacedPart}
 use Rattle.jx_codestream.specs.Params.{limit_4_of, rule_9_of}
 use Rattle.jx_codestream.specs.Parts.{has_wrong_length, marker_at, sod_fault, sot_fault, start_fault}
-use Rattle.jx_tier2_reader.specs.Cuts.{Breaks, Left, Stops}
-use Rattle.jx_tier2_reader.specs.Data.{body_fault, first_mark, front_length, has_sop, marks_fault, number_at, parts_length, rule_30, sop_fault}
+use Rattle.jx_tier2_reader.specs.Cuts.{Breaks, Left, Stops, data_fault, left_fault, packed_fault}
+use Rattle.jx_tier2_reader.specs.Data.{body_fault, due, eph_fault, first_mark, is_eph_cut, front_length, has_sop, marks_fault, number_at, parts_length, rule_30, sop_fault}
 use Rattle.jx_tile.specs.Faults.{passed}
 use Rattle.jx_tier2_reader.specs.Gathered.{IsBroken}
 use Rattle.jx_tile.specs.Totals.{block_total, packet_total, totals_fault}
@@ -76,8 +80,10 @@ tiles_told siz = let few : 3 < 7 = omega arith in told_cond (nat_lt 65535 (tile_
 early_told : (kind : HeaderKind) (comps : ℕ) (b : List ℕ) (at : ℕ) → AllTold (early_fault kind comps b at)
 unfolding early_fault
 early_told kind comps b at =
-    told_or (rule_at at (first_broken comps (drop at b))) (broken 19 at (not (stands_in kind (segment_at comps (drop at b))))) (told_rule at (first_broken comps (drop at b)))
-    (told_broken 19 at (not (stands_in kind (segment_at comps (drop at b)))))
+    let twice = broken 14 at (is_packed_twice kind (segment_at comps (drop at b))) in
+    let out = broken 19 at (not (stands_in kind (segment_at comps (drop at b)))) in
+    told_or (rule_at at (first_broken comps (drop at b))) (option_or twice out) (told_rule at (first_broken comps (drop at b)))
+    (told_or twice out (told_broken 14 at (is_packed_twice kind (segment_at comps (drop at b)))) (told_broken 19 at (not (stands_in kind (segment_at comps (drop at b))))))
 
 segment_told : (kind : HeaderKind) (comps : ℕ) (b : List ℕ) (before : List Segment) (at : ℕ) → AllTold (segment_fault kind comps b before at)
 unfolding segment_fault
@@ -102,6 +108,10 @@ sod_told b at sot sod =
     told_cond (sot.psot == 0) (broken 23 (length b - 2) (not (marker_at b (length b - 2) EOC) || nat_lt (length b - 2) (sod + 2))) (broken 22 at (nat_lt (at + sot.psot) (sod + 2)))
     (told_broken 23 (length b - 2) (not (marker_at b (length b - 2) EOC) || nat_lt (length b - 2) (sod + 2))) (told_broken 22 at (nat_lt (at + sot.psot) (sod + 2)))
 
+shares_told : (b : List ℕ) (packed : List PackedSegment) (parts : List PlacedPart) → AllTold (shares_fault b packed parts)
+shares_told b [] parts = tt
+shares_told b (p ∷ ps) parts = told_broken 37 p.place (not (shares_fit b (data_in_order (p ∷ ps)) parts))
+
 entries_told : (o : Option Tile) → AllTold (rule_9_of o)
 entries_told None = tt
 entries_told (Some tile) = tt
@@ -120,8 +130,9 @@ first_told b f (inr (inr (inr (inr (inr (inl x)))))) = told_at _ f (sot_told _ _
 first_told b f (inr (inr (inr (inr (inr (inr (inl x))))))) = told_at _ f (segment_told _ _ _ _ _) x.first
 first_told b f (inr (inr (inr (inr (inr (inr (inr (inl x)))))))) = told_at _ f (sod_told _ _ _ _) x.first
 first_told b f (inr (inr (inr (inr (inr (inr (inr (inr (inl x))))))))) = told_at _ f (told_broken _ _ _) x.first
-first_told b f (inr (inr (inr (inr (inr (inr (inr (inr (inr (inl x)))))))))) = told_at _ f (entries_told _) x.first
-first_told b f (inr (inr (inr (inr (inr (inr (inr (inr (inr (inr x)))))))))) = told_at _ f (planes_told _) x.first
+first_told b f (inr (inr (inr (inr (inr (inr (inr (inr (inr (inl x)))))))))) = told_at _ f (shares_told _ _ _) x.first
+first_told b f (inr (inr (inr (inr (inr (inr (inr (inr (inr (inr (inl x))))))))))) = told_at _ f (entries_told _) x.first
+first_told b f (inr (inr (inr (inr (inr (inr (inr (inr (inr (inr (inr x))))))))))) = told_at _ f (planes_told _) x.first
 
 -- ---- tile data
 sop_told : (w : List ℕ) (at number : ℕ) (f : StreamFault) → sop_fault w at number ≡ Some f → IsTold f
@@ -141,23 +152,39 @@ marks_told at bytes (p ∷ parts) =
     told_or (rule_30 at (first_mark (take p.length bytes))) (marks_fault (at + p.length) (drop p.length bytes) parts) (mark_told at (first_mark (take p.length bytes)))
     (marks_told (at + p.length) (drop p.length bytes) parts)
 
-body_told : (w : List ℕ) (at used : ℕ) (parts : List HeaderPart) (f : StreamFault) → body_fault w at used parts ≡ Some f → IsTold f
+eph_told : (packed : Option (List ℕ)) (at used : ℕ) → AllTold (eph_fault packed at used)
+eph_told None at used = tt
+eph_told (Some packed) at used = told_broken 26 at (is_eph_cut (drop used packed))
+
+body_told : (packed : Option (List ℕ)) (w : List ℕ) (at used : ℕ) (parts : List HeaderPart) (f : StreamFault) → body_fault packed w at used parts ≡ Some f → IsTold f
 unfolding body_fault
-body_told w at used parts f e =
-    told_at (option_or (broken 28 at (nat_lt (length w) (front_length w used + parts_length parts))) (marks_fault (at + front_length w used) (drop (front_length w used) w) parts)) f
-    (told_or (broken 28 at (nat_lt (length w) (front_length w used + parts_length parts))) (marks_fault (at + front_length w used) (drop (front_length w used) w) parts)
-    (told_broken 28 at (nat_lt (length w) (front_length w used + parts_length parts))) (marks_told (at + front_length w used) (drop (front_length w used) w) parts)) e
+body_told packed w at used parts f e =
+    let n : ℕ = front_length packed w used in
+    let long = broken 28 at (nat_lt (length w) (n + parts_length parts)) in
+    let marks = marks_fault (at + n) (drop n w) parts in
+    told_at (option_or (eph_fault packed at used) (option_or long marks)) f
+    (told_or (eph_fault packed at used) (option_or long marks) (eph_told packed at used)
+    (told_or long marks (told_broken 28 at (nat_lt (length w) (n + parts_length parts))) (marks_told (at + n) (drop n w) parts))) e
 
-breaks_told : (w : List ℕ) (at number : ℕ) (k : State) (f : StreamFault) → Breaks w at number k f → IsTold f
-breaks_told w at number k f (inl sop) = sop_told w at number f sop
-breaks_told w at number k f (inr (none, inl (inl planes))) = told_is f 27 at planes.1
-breaks_told w at number k f (inr (none, inl (inr bits))) = told_is f 26 at bits.2
-breaks_told w at number k f (inr (none, inr body)) = body_told w at body.used body.parts f body.body
+breaks_told : (packed : Option (List ℕ)) (w : List ℕ) (at number : ℕ) (k : State) (f : StreamFault) → Breaks packed w at number k f → IsTold f
+breaks_told packed w at number k f (inl sop) = sop_told w at number f sop
+breaks_told packed w at number k f (inr (none, inl (inl planes))) = told_is f 27 at planes.1
+breaks_told packed w at number k f (inr (none, inl (inr bits))) = told_is f 26 at bits.2
+breaks_told packed w at number k f (inr (none, inr body)) = body_told packed w at body.used body.parts f body.body
 
-stops_told : (b : List ℕ) (g : Geometry) (end number : ℕ) (left : Left) (rest : List PacketName) (f : StreamFault) → Stops b g end number left rest f → IsTold f
-stops_told b g end number left [] f over = told_is f 31 over.body.at over.fault_is
-stops_told b g end number left (p ∷ rest) f (inl none) = told_is f 26 end none.1
-stops_told b g end number left (p ∷ rest) f (inr breaks) = breaks_told _ _ _ _ f breaks.breaks
+data_told : (bodies : List Body) → AllTold (data_fault bodies)
+data_told [] = tt
+data_told (body ∷ later) = tt
+
+packed_told : (pieces : List Body) (packed : Option (List ℕ)) → AllTold (packed_fault pieces packed)
+packed_told pieces None = tt
+packed_told pieces (Some []) = tt
+packed_told pieces (Some (byte ∷ rest)) = tt
+
+stops_told : (b : List ℕ) (g : Geometry) (pieces : List Body) (number : ℕ) (left : Left) (rest : List PacketName) (f : StreamFault) → Stops b g pieces number left rest f → IsTold f
+stops_told b g pieces number left [] f over =
+    told_at (left_fault pieces left) f (told_or (data_fault (due left.bodies)) (packed_fault pieces left.packed) (data_told (due left.bodies)) (packed_told pieces left.packed)) over
+stops_told b g pieces number left (p ∷ rest) f breaks = breaks_told _ _ _ _ _ f breaks.breaks
 
 totals_told : (s : Stream) (f : StreamFault) → totals_fault s ≡ Some f → IsTold f
 unfolding totals_fault

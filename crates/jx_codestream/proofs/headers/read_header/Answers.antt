@@ -3,6 +3,8 @@ use Rattle.std.proofs.lemmas.Result.{err_from_is_err_and}
 use Rattle.jx_marker.specs.Segments.{size_at}
 use Rattle.jx_codestream.specs.Headers.{ends_header, is_second}
 use Rattle.jx_codestream.proofs.HeaderLemmas.{read_early, read_second, read_end, read_more, marks_at, second_at, progress, size_is_two}
+use Rattle.jx_codestream.specs.PackedHeaders.{packed_from}
+use Rattle.jx_codestream.proofs.SharesLemmas.{lie_more, packed_more, size_on}
 use Rattle.jx_codestream.proofs.headers.read_header.Goals as goal
 
 pub returns-in_err-segment-clause-answer : goal.returns-in_err-segment-clause-answer
@@ -38,9 +40,17 @@ segments-preserved c =
           c.in_ok-segment.ensures.answer.0 c.in_ok-segment.ensures.answer.1 single (sym c.ends_header.ensures ∙ c.if-ends_header.false) c.in_ok-push.ensures.items c.in_ok-segment.ensures.after.0;
       marks = marks_at c.args.comps c.args.at c.segments.segments.items c.push.new.self.items c.in_ok-segment.segment c.slot_of.result c.segments.seen c.mark.new.seen c.slot_of.ensures c.in_ok-segment.ensures.range
           (c.segments.auto.seen ∙ c.requires.slots) c.mark.ensures.after c.in_ok-push.ensures.items c.segments.invariant.marks;
+      size = size_on c.args.comps c.args.at c.segments.segments.items c.push.new.self.items c.in_ok-segment.segment c.segments.place c.in_ok-segment.next c.segments.invariant.size c.in_ok-segment.ensures.size c.in_ok-push.ensures.items;
+      packed = packed_more c.args.comps c.args.at c.segments.segments.items c.push.new.self.items c.in_ok-segment.segment c.segments.place c.segments.packed.items c.push_packed.new.packed.items c.segments.invariant.packed
+          c.segments.invariant.size c.in_ok-push_packed.ensures c.in_ok-push.ensures.items;
+      lie = lie_more c.args.bytes.now c.args.comps c.segments.place c.in_ok-segment.next c.in_ok-segment.segment c.segments.packed.items c.push_packed.new.packed.items c.segments.invariant.lie c.in_ok-segment.ensures.size
+          c.in_ok-segment.ensures.after.1 c.in_ok-push_packed.ensures;
     }
 
 pub returns-then-ends_header-clause-within : goal.returns-then-ends_header-clause-within
 returns-then-ends_header-clause-within c =
     let two : 2 ≤ size_at (drop c.segments.place c.args.bytes.now) = size_is_two (drop c.segments.place c.args.bytes.now) in
     (c.segments.invariant.from, omega (arith, c.in_ok-segment.ensures.after.0, c.in_ok-segment.ensures.after.1))
+
+pub returns-then-ends_header-clause-packed : goal.returns-then-ends_header-clause-packed
+returns-then-ends_header-clause-packed c = c.segments.invariant.packed ∙ ap (packed_from c.args.comps c.args.at) (sym c.new.ensures)

@@ -2,7 +2,7 @@ use Rattle.std.proofs.Common.{◌≡◌, arith, true, sym, ◌∙◌, None}
 use Rattle.jx_marker.specs.Markers.{has_length}
 use Rattle.jx_marker.specs.Segments.{code_at}
 use Rattle.jx_marker.specs.Rules.{first_broken}
-use Rattle.jx_marker.proofs.RuleLemmas.{two_bytes, has_room, clear, length_body, least_two, not_packed}
+use Rattle.jx_marker.proofs.RuleLemmas.{two_bytes, has_room, clear, length_body, least_two}
 use Rattle.jx_marker.proofs.read.read_front.Goals as goal
 
 pub bounds-bytes-1 : goal.bounds-bytes-1
@@ -56,18 +56,6 @@ value_of-requires-clause-sot c =
     let follows : has_length (code_at c.args.bytes.now) ≡ true = sym c.has_length.ensures ∙ c.if-not-has_length.false in
     let room = has_room c.args.comps c.args.bytes.now fine.long follows in
     λ is. rw c.body_of.ensures (omega (arith, room.sot is, length_body c.args.comps c.args.bytes.now room))
-
-pub value_of-requires-clause-not_ppm : goal.value_of-requires-clause-not_ppm
-value_of-requires-clause-not_ppm c =
-    let none : first_broken c.args.comps c.args.bytes.now ≡ None = sym c.first_broken.ensures ∙ c.in_default.is in
-    let fine = clear c.args.comps c.args.bytes.now none in
-    (not_packed c.args.comps c.args.bytes.now fine.long fine.packed).0
-
-pub value_of-requires-clause-not_ppt : goal.value_of-requires-clause-not_ppt
-value_of-requires-clause-not_ppt c =
-    let none : first_broken c.args.comps c.args.bytes.now ≡ None = sym c.first_broken.ensures ∙ c.in_default.is in
-    let fine = clear c.args.comps c.args.bytes.now none in
-    (not_packed c.args.comps c.args.bytes.now fine.long fine.packed).1
 
 pub returns-in-Ok-clause-within : goal.returns-in-Ok-clause-within
 returns-in-Ok-clause-within c =

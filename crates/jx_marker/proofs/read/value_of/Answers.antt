@@ -1,13 +1,12 @@
 use Rattle.std.proofs.Common.{◌≡◌, ◌+◌, ◌∙◌, ap, arith, get_or, sym}
 use Rattle.std.proofs.lemmas.Bool.Decides.{nat_tests}
 use Rattle.byteorder.specs.Endian.{big_from}
-use Rattle.jx_marker.specs.Codes.{PPM, PPT, SOT}
+use Rattle.jx_marker.specs.Codes.{SOT}
 use Rattle.jx_marker.specs.declared.Segment.TheVariants as segment
 use Rattle.jx_marker.specs.Segments.{value_of}
 use Rattle.jx_marker.specs.Values.{index_at, quant_at, shape_at}
-use Rattle.jx_marker.proofs.ClearLemmas.{clear_siz, clear_cod, clear_coc, clear_rgn, sot_left}
+use Rattle.jx_marker.proofs.ClearLemmas.{clear_siz, clear_cod, clear_coc, clear_rgn, clear_ppm, clear_ppt, sot_left}
 use Rattle.jx_marker.proofs.read.value_of.Goals as goal
-use Rattle.std.proofs.lemmas.Bool.{ne_eqb}
 
 pub read_siz-requires : goal.read_siz-requires
 read_siz-requires c =
@@ -52,13 +51,19 @@ bounds-body-index_size c =
     let rgn = clear_rgn c.args.comps c.args.body.now h in
     omega (arith, rgn.size, c.index_size-in-94-2.ensures.value)
 
+pub read_packed-requires : goal.read_packed-requires
+read_packed-requires c = clear_ppm c.args.comps c.args.body.now (rw c.in-96.is at c.requires.rules)
+
+pub read_packed-requires-in-97 : goal.read_packed-requires-in-97
+read_packed-requires-in-97 c = clear_ppt c.args.comps c.args.body.now (rw c.in-97.is at c.requires.rules)
+
 pub read_sot-requires : goal.read_sot-requires
 read_sot-requires c =
     let is : c.args.code ≡ SOT = sot_left c.args.code c.requires.marker
     (grind (arith, nat_tests, c.in_default)) (grind (arith, nat_tests, c.in_default)) (grind (arith, nat_tests, c.in_default))
     (grind (arith, nat_tests, c.in_default)) (grind (arith, nat_tests, c.in_default)) (grind (arith, nat_tests, c.in_default))
     (grind (arith, nat_tests, c.in_default)) (grind (arith, nat_tests, c.in_default)) (grind (arith, nat_tests, c.in_default))
-    (grind (arith, nat_tests, c.in_default)) (ne_eqb c.args.code PPM c.requires.not_ppm) (ne_eqb c.args.code PPT c.requires.not_ppt)
+    (grind (arith, nat_tests, c.in_default)) (grind (arith, nat_tests, c.in_default)) (grind (arith, nat_tests, c.in_default))
     (grind (arith, nat_tests, c.in_default)) (grind (arith, nat_tests, c.in_default)) in
     omega (arith, c.requires.sot is)
 
@@ -116,6 +121,6 @@ returns-in_default c =
     (grind (arith, nat_tests, c.in_default)) (grind (arith, nat_tests, c.in_default)) (grind (arith, nat_tests, c.in_default))
     (grind (arith, nat_tests, c.in_default)) (grind (arith, nat_tests, c.in_default)) (grind (arith, nat_tests, c.in_default))
     (grind (arith, nat_tests, c.in_default)) (grind (arith, nat_tests, c.in_default)) (grind (arith, nat_tests, c.in_default))
-    (grind (arith, nat_tests, c.in_default)) (ne_eqb c.args.code PPM c.requires.not_ppm) (ne_eqb c.args.code PPT c.requires.not_ppt)
+    (grind (arith, nat_tests, c.in_default)) (grind (arith, nat_tests, c.in_default)) (grind (arith, nat_tests, c.in_default))
     (grind (arith, nat_tests, c.in_default)) (grind (arith, nat_tests, c.in_default)) in
     ap segment.Sot c.read_sot.ensures ∙ sym (ap (λ k. value_of c.args.comps k c.args.body.now) is)

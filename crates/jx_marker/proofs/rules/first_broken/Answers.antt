@@ -15,7 +15,6 @@ returns-then-not-has_length c =
     let none : has_length (code_at c.args.bytes.now) ≡ false = sym c.has_length.ensures ∙ c.if-not-has_length.true in
     sym (clear_broken c.args.comps c.args.bytes.now (record {
       marker = cc;
-      packed = cc;
       long = cc;
       inside = alone_rules c.args.comps (code_at c.args.bytes.now) (body_at c.args.bytes.now) none;
     }))

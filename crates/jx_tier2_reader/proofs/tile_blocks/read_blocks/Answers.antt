@@ -5,9 +5,10 @@ use Rattle.jx_codestream.specs.Shapes.{tile_at}
 use Rattle.jx_tile.specs.Covered.{IsListOf, IsWhole}
 use Rattle.jx_tile.specs.Faults.{HasCause}
 use Rattle.jx_tile.proofs.FrameLemmas.{frame_from, frame_totals, frame_to, inside_frame}
-use Rattle.jx_tier2_reader.specs.Gathered.{AreTileBlocks, BreaksTile}
-use Rattle.jx_tier2_reader.specs.InRange.{DataInRange}
+use Rattle.jx_tier2_reader.specs.Gathered.{AreTileBlocks, BreaksTile, head_pieces}
+use Rattle.jx_tier2_reader.specs.InRange.{DataInRange, HeadsInRange}
 use Rattle.jx_tier2_reader.proofs.BodyLemmas.{read_data}
+use Rattle.jx_tier2_reader.proofs.HeadLemmas.{read_heads}
 use Rattle.jx_tier2_reader.proofs.GatherLemmas.{cause_of_data, cause_of_lack, tile_sound}
 use Rattle.jx_tier2_reader.proofs.tile_blocks.read_blocks.Goals as goal
 
@@ -32,6 +33,13 @@ read_tile-requires-clause-bodies c =
     let inside = inside_frame c.args.frame.now c.parts.result.0.now c.parts.result.1.now c.parts.result.2.now c.parts.ensures.stream c.parts.ensures.geometry c.parts.ensures.tile in
     frame_to P c.args.frame.now c.parts.result.0.now c.parts.result.2.now c.parts.ensures.stream c.parts.ensures.geometry
     (read_data c.args.bytes.now c.args.frame.now.stream c.args.frame.now.number c.requires.read inside)
+
+pub read_tile-requires-clause-heads : goal.read_tile-requires-clause-heads
+read_tile-requires-clause-heads c =
+    let P : Stream → ℕ → Type 0 = λ s t. HeadsInRange c.args.bytes.now (head_pieces s t) in
+    let inside = inside_frame c.args.frame.now c.parts.result.0.now c.parts.result.1.now c.parts.result.2.now c.parts.ensures.stream c.parts.ensures.geometry c.parts.ensures.tile in
+    frame_to P c.args.frame.now c.parts.result.0.now c.parts.result.2.now c.parts.ensures.stream c.parts.ensures.geometry
+    (read_heads c.args.bytes.now c.args.frame.now.stream c.args.frame.now.number c.requires.read inside)
 
 pub returns-in-Ok-read_tile-clause-blocks : goal.returns-in-Ok-read_tile-clause-blocks
 returns-in-Ok-read_tile-clause-blocks c =
