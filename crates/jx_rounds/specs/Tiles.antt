@@ -12,6 +12,7 @@ use Rattle.jx_codestream.specs.declared.Stream.{Stream}
 use Rattle.jx_codestream.specs.declared.Tile.{Tile}
 use Rattle.jx_codestream.specs.First.{canvas_of}
 use Rattle.jx_codestream.specs.Shapes.{shapes_of, tile_at}
+use Rattle.jx_tier2_reader.specs.Data.{packed_pieces}
 use Rattle.jx_codeblock.specs.Written.{is_wrong}
 use Rattle.jx_options.specs.Wanted.{Wanted}
 
@@ -38,14 +39,21 @@ pub record IsWrongAt (w : Wanted) (s : Stream) (blocks : List Block) (t number :
 abbrev pub IsRight : Wanted → Stream → List Block → ℕ → Type 0
 IsRight w s blocks t = (n : ℕ) → first_in_tile s t ≤ n → n < first_in_tile s t + blocks_in_tile s t → IsWrongBlock w (slice_get blocks n) → ⊥
 
--- about how many bytes a segment of a tile's header takes: those of a comment (A.9.2); of any other 256, which are as many as it may have
+-- about how many bytes a segment of a tile's header takes: those of a comment (A.9.2); of any other 256, which are as
+-- many as one that is written may have
 abbrev pub segment_size : Segment → ℕ
 segment_size (segment.Com bytes) = length bytes
 segment_size _ = 256
 
--- about how many bytes a tile has as it was read: the data of its tile-parts and the segments of their headers (A.4.2)
+-- how many bytes pieces of the file have together
+abbrev pub bytes_of_pieces : List Body → ℕ
+bytes_of_pieces pieces = sum (map (λ (b : Body). b.length) pieces)
+
+-- about how many bytes a tile has as it was read: the data of its tile-parts, its packed packet headers and the segments
+-- of the tile-parts' headers (A.4.2, A.7.4, A.7.5)
 abbrev pub size_of_tile : Tile → ℕ
-size_of_tile t = sum (map (λ (b : Body). b.length) t.bodies) + (sum (map segment_size t.header) + sum (map segment_size t.notes))
+size_of_tile t =
+    bytes_of_pieces t.bodies + (bytes_of_pieces (packed_pieces t.heads) + (sum (map segment_size t.header) + sum (map segment_size t.notes)))
 
 abbrev pub tile_size : Stream → ℕ → ℕ
 tile_size s t = size_of_tile (tile_at s t)

@@ -1,7 +1,6 @@
-use Rattle.std.proofs.Common.{◌≡◌, ◌+◌, drop, map}
-use Rattle.std.specs.List.{sum}
-use Rattle.jx_codestream.specs.declared.Body.{Body}
+use Rattle.std.proofs.Common.{◌≡◌, ◌+◌, drop}
+use Rattle.jx_rounds.specs.Tiles.{bytes_of_pieces}
 use Rattle.jx_rounds.proofs.room.room_behind_data.Given as goal
 
-abbrev pub invariant-loop-body : goal.invariant-loop-body
-invariant-loop-body l = l.rest + sum (map (λ (b : Body). b.length) l.bodies) ≡ l.room + sum (map (λ (b : Body). b.length) (drop l.body-index l.bodies))
+abbrev pub invariant-loop-piece : goal.invariant-loop-piece
+invariant-loop-piece l = l.rest + bytes_of_pieces l.pieces ≡ l.room + bytes_of_pieces (drop l.piece-index l.pieces)
