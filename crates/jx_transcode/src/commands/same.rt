@@ -17,6 +17,7 @@ use jx_base::{Block, NoMemory};
 use jx_cli::Pair;
 use jx_codestream::Stream;
 use jx_io::{Files, Sink};
+use jx_rounds::threads_for;
 use jx_same::{Answer, compare};
 use std::alloc::{AllocError, Global};
 use std::thread::Threads;
@@ -128,7 +129,7 @@ fn compare_files<R: Threads + Sync, F: Files>(
             let status = compare_second(
                 rt,
                 alloc,
-                names.threads(),
+                threads_for(rt, names.threads()),
                 &accepted.picture.stream,
                 blocks,
                 files,
