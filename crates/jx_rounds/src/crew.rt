@@ -106,7 +106,8 @@ fn entry_of<'a, G: Gate>(
     job: &'a Job<'a>,
 ) -> Result<Entry<Recoded<'a>>, NoMemory>
     requires { IsAsked job.now.block.now job.now.style job.now.ends }
-    ensures { IfOk result (λ t. t ≡ record { number = job.now.number; worker = 0; seen = job.now.number; named = answer_of job.now }) }
+    ensures { IfOk result
+        (λ t. t ≡ record { number = job.now.number; worker = 0; seen = job.now.number; named = answer_of job.now }) }
 {
     let named = answer_told(alloc, gate, job)?;
     Ok(Taped {
@@ -223,7 +224,8 @@ pub fn made_blocks<'a, R: Threads + Wait + Sync, G: Gate + Sync>(
     requires count { first + length jobs.now ≤ most_blocks }
     requires work { MayBeWork crew.now.work }
     ensures tape { IfOk result (λ entries. IsTapeFrom jobs.entry.now first crew.now.work entries.items) }
-    ensures alone { IfOk result (λ entries. AreUnshared jobs.entry.now → AreMadeAlone (up_to_bad jobs.entry.now) entries.items) }
+    ensures alone { IfOk result (λ entries. AreUnshared jobs.entry.now
+        → AreMadeAlone (up_to_bad jobs.entry.now) entries.items) }
 {
     numbers_count_up();
     if is_anew(jobs) && is_light(jobs) {
