@@ -1,5 +1,6 @@
--- Headers without PPM and PPT: what is left out is among them, and packet headers stand in their places (T.800, A.7.4 and A.7.5).
-use Rattle.std.proofs.Common.{◌≡◌, ◌+◌, ℕ, true, false, List, [], ◌∷◌, length, refl, sym}
+-- Headers without PPM and PPT: what is left out is among them, and packet headers stand in their places (T.800, A.7.4
+-- and A.7.5).
+use Rattle.std.proofs.Common.{◌≡◌, ◌+◌, ℕ, true, false, List, [], ◌∷◌, length, refl}
 use Rattle.std.specs.List.{list_any}
 use Rattle.std.proofs.lemmas.Bool.{or_parts, true≢false}
 use Rattle.jx_marker.specs.declared.Segment.{Segment}

@@ -139,8 +139,8 @@ module _ (m : Marks) (comps t : ℕ) (own : List Segment) (ps : Packets) (parts 
   header_in_place part lengths none =
       ap has_packed (header_is m own part lengths) ∙ list_any-append is_packed (own_at part own) (numbered 0 (held_by m.plt lengths))
       ∙ (let front : has_packed (own_at part own) ≡ false = at part in
-        let behind : has_packed (numbered 0 (held_by m.plt lengths)) ≡ false = lengths_unpacked 0 (held_by m.plt lengths) in
-        rw (front, behind) refl)
+      let behind : has_packed (numbered 0 (held_by m.plt lengths)) ≡ false = lengths_unpacked 0 (held_by m.plt lengths) in
+      rw (front, behind) refl)
     where
       at : (k : ℕ) → has_packed (own_at k own) ≡ false
       at zero = none

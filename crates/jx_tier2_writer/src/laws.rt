@@ -145,9 +145,9 @@ pub fn one_output()
         → xs ≡ ys }
 {}
 
-/// The headers that are written, with 1 to 65,535 layers, are such as a file may be written from, where nothing is in the way: no
-/// POC, PLT, PPM or PPT stands in them, each COD announces SOP and EPH as asked, no tile is cut into over 255 tile-parts, and the index has
-/// room for all tile-parts where it is asked (T.800, A.4, A.6 to A.8).
+/// The headers that are written, with 1 to 65,535 layers, are such as a file may be written from, where nothing is in
+/// the way: no POC, PLT, PPM or PPT stands in them, each COD announces SOP and EPH as asked, no tile is cut into over
+/// 255 tile-parts, and the index has room for all tile-parts where it is asked (T.800, A.4, A.6 to A.8).
 pub fn written_is_ready()
     ensures { (w : Wanted) (layers : ℕ) (s : Stream) → 1 ≤ layers → layers < 2 ^ 16 → MayBeWanted w → HeadersStand s → StreamInRange s → totals_fault s ≡ None
         → IsFree s w layers → AreReady w.marks (headers_with w layers s) }
