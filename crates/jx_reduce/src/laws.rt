@@ -32,20 +32,20 @@ pub fn geometry_stays()
     ensures parts { (d : ℕ) (s : Stream) (t c r k : ℕ) (b : Band) → HeadersStand s → first_choice d s ≡ None
         → HasResolution (geometry (stream_left d s) t) c r
         → precinct_part (rect_of_tile (geometry (stream_left d s) t))
-            (shape_of (geometry (stream_left d s) t) c) r b k
-            ≡ precinct_part (rect_of_tile (geometry s t)) (shape_of (geometry s t) c) r b k }
+        (shape_of (geometry (stream_left d s) t) c) r b k
+        ≡ precinct_part (rect_of_tile (geometry s t)) (shape_of (geometry s t) c) r b k }
     ensures leaves { (d : ℕ) (s : Stream) (t c r k : ℕ) (b : Band) → HeadersStand s → first_choice d s ≡ None
         → HasResolution (geometry (stream_left d s) t) c r
         → precinct_blocks (rect_of_tile (geometry (stream_left d s) t))
-            (shape_of (geometry (stream_left d s) t) c) r b k
-            ≡ precinct_blocks (rect_of_tile (geometry s t)) (shape_of (geometry s t) c) r b k }
+        (shape_of (geometry (stream_left d s) t) c) r b k
+        ≡ precinct_blocks (rect_of_tile (geometry s t)) (shape_of (geometry s t) c) r b k }
     ensures blocks { (d : ℕ) (s : Stream) (t c r : ℕ) (b : Band) → HeadersStand s → first_choice d s ≡ None
         → HasResolution (geometry (stream_left d s) t) c r
         → blocks_in (geometry (stream_left d s) t) c r b ≡ blocks_in (geometry s t) c r b }
     ensures places { (d : ℕ) (s : Stream) (t c r i : ℕ) (b : Band) → HeadersStand s → first_choice d s ≡ None
         → HasResolution (geometry (stream_left d s) t) c r
         → block_rect (rect_of_tile (geometry (stream_left d s) t)) (shape_of (geometry (stream_left d s) t) c) r b i
-            ≡ block_rect (rect_of_tile (geometry s t)) (shape_of (geometry s t) c) r b i }
+        ≡ block_rect (rect_of_tile (geometry s t)) (shape_of (geometry s t) c) r b i }
     ensures across { (d : ℕ) (s : Stream) (t c r k : ℕ) → HeadersStand s → first_choice d s ≡ None
         → HasResolution (geometry (stream_left d s) t) c r
         → reference_across (geometry (stream_left d s) t) c r k ≡ reference_across (geometry s t) c r k }

@@ -96,7 +96,7 @@ fn compare_patch<'a>(
     requires shelf { AreOnShelf b.now name shelf.old }
     ensures first { IfOk result (λ hit. IsFirstRow (differs (meaning_at a.now) (meaning_at b.now))
         (row_items (block_items
-            (geometry_at a.now) name.comp name.res name.band) walk.wide patch.left patch.right) patch.low patch.high hit) }
+        (geometry_at a.now) name.comp name.res name.band) walk.wide patch.left patch.right) patch.low patch.high hit) }
     ensures shelf { OnOk result (AreOnShelf b.now name shelf.new) }
 {
     for row in patch.low..patch.high {
@@ -131,7 +131,7 @@ fn best_after<'a>(
         (geometry_at a.now) name.comp name.res name.band) walk.wide 0 rows.left) rows.low rows.high best }
     ensures best { IfOk result (λ after. IsBest (differs (meaning_at a.now) (meaning_at b.now))
         (row_items (block_items
-            (geometry_at a.now) name.comp name.res name.band) walk.wide 0 rows.right) rows.low rows.high after) }
+        (geometry_at a.now) name.comp name.res name.band) walk.wide 0 rows.right) rows.low rows.high after) }
     ensures shelf { OnOk result (AreOnShelf b.now name shelf.new) }
 {
     let patch = Patch {
@@ -185,7 +185,7 @@ fn compare_cells(
     requires high { high ≤ walk.high }
     ensures { IfOk result (λ found. found ≡ find (differs (meaning_at a.now) (meaning_at b.now))
         (joined (row_items
-            (block_items (geometry_at a.now) name.comp name.res name.band) walk.wide 0 walk.wide) low high)) }
+        (block_items (geometry_at a.now) name.comp name.res name.band) walk.wide 0 walk.wide) low high)) }
 {
     let mut shelf = Shelf::new(alloc, b.in_cells(name, a));
     let mut best = Best {
@@ -227,7 +227,7 @@ pub(crate) fn compare_rows(
     requires high { high ≤ walk.high }
     ensures { IfOk result (λ found. found ≡ find (differs (meaning_at a.now) (meaning_at b.now))
         (joined (row_items
-            (block_items (geometry_at a.now) name.comp name.res name.band) walk.wide 0 walk.wide) low high)) }
+        (block_items (geometry_at a.now) name.comp name.res name.band) walk.wide 0 walk.wide) low high)) }
 {
     let mut row = low;
     while row < high {

@@ -95,7 +95,7 @@ fn compare_runs<'a, R: Threads + Sync>(
             requires few { cut.high < 2 ^ 16 }
             ensures { IfOk result (λ found. found ≡ find (differs (meaning_in a.entry) (meaning_in b.entry))
                 (joined (tile_items a.entry.stream.now) (cut_at cut.low cut.size cut.high run)
-                    (cut_at cut.low cut.size cut.high (run + 1)))) }
+                (cut_at cut.low cut.size cut.high (run + 1)))) }
         {
             // It is asked for in the contract alone.
             let _ = &cut.runs;

@@ -54,7 +54,7 @@ fn compare_run(
     requires high { high ≤ unit_count walk.by_rows walk }
     ensures { IfOk result (λ found. found ≡ find (differs (meaning_at a.now) (meaning_at b.now))
         (joined (unit_items walk.by_rows (block_items
-            (geometry_at a.now) name.comp name.res name.band) walk.wide) low high)) }
+        (geometry_at a.now) name.comp name.res name.band) walk.wide) low high)) }
 {
     if walk.by_rows {
         return compare_rows(alloc, a, b, name, walk, low, high);
@@ -81,7 +81,7 @@ fn compare_runs<R: Threads + Sync>(
     requires all { cut.high ≤ cut.low + cut.runs * cut.size }
     ensures { IfOk result (λ found. found ≡ find (differs (meaning_at a.now) (meaning_at b.now))
         (joined (unit_items walk.by_rows (block_items
-            (geometry_at a.now) name.comp name.res name.band) walk.wide) cut.low cut.high)) }
+        (geometry_at a.now) name.comp name.res name.band) walk.wide) cut.low cut.high)) }
 {
     let answers = thread::map_indices(
         rt,
@@ -95,7 +95,7 @@ fn compare_runs<R: Threads + Sync>(
             requires high { cut.high ≤ unit_count walk.by_rows walk }
             ensures { IfOk result (λ found. found ≡ find (differs (meaning_at a.entry.now) (meaning_at b.entry.now))
                 (joined (unit_items walk.by_rows (block_items
-                    (geometry_at a.entry.now) name.comp name.res name.band) walk.wide)
+                (geometry_at a.entry.now) name.comp name.res name.band) walk.wide)
                 (cut_at cut.low cut.size cut.high run) (cut_at cut.low cut.size cut.high (run + 1)))) }
         {
             // It is asked for in the contract alone.
@@ -201,7 +201,7 @@ pub(crate) fn compare_blocks<R: Threads + Sync>(
     requires band { HasBandOf a.now name }
     ensures { IfOk result (λ found. found ≡ find (differs (meaning_at a.now) (meaning_at b.now))
         (joined (block_items (geometry_at a.now) name.comp name.res name.band) 0
-            (size_of (blocks_in (geometry_at a.now) name.comp name.res name.band)))) }
+        (size_of (blocks_in (geometry_at a.now) name.comp name.res name.band)))) }
 {
     let walk = a.walk(name, b);
     let units = unit_count(walk);

@@ -55,13 +55,13 @@ pub fn plans_are_carried_out()
         (p : Plan)
         (st : Status) (count bytes : ℕ) (tape : List TapeEntry) (old new : Meaning)
         → MayBeWanted aim.wanted → IsPlanned (rule_in aim s blocks) s blocks aim.wanted p → length input ≤ aim.limit
-            → ReadsLeft aim.reduce input s blocks
+        → ReadsLeft aim.reduce input s blocks
         → IsCarriedTo p name work st count bytes tape old new
-            → IsAnswered name work aim input st count bytes tape old new }
+        → IsAnswered name work aim input st count bytes tape old new }
     ensures memory { (work : Work) (aim : Aim) (input : List ℕ) (s : Stream) (blocks : List Block) (p : Plan)
         (st : Status) (count : ℕ) (out : List ℕ) (tape : List TapeEntry)
         → MayBeWanted aim.wanted → IsPlanned (rule_in aim s blocks) s blocks aim.wanted p → length input ≤ aim.limit
-            → ReadsLeft aim.reduce input s blocks
+        → ReadsLeft aim.reduce input s blocks
         → IsCarriedIn p work st count out tape → ComesOut work aim input st count out tape }
 {
     read_headers_stand();
@@ -94,14 +94,14 @@ pub fn one_file()
     ensures runs { (name again : Text) (work other : Work) (aim : Aim) (input : List ℕ)
         (blocks bytes blocks2 bytes2 : ℕ) (tape tape2 : List TapeEntry) (old new old2 new2 : Meaning)
         → aim.limit ≤ most_bytes → (one : EndsBare name work aim input status.Done blocks bytes tape old new)
-            → (two : EndsBare again other aim input status.Done blocks2 bytes2 tape2 old2 new2)
+        → (two : EndsBare again other aim input status.Done blocks2 bytes2 tape2 old2 new2)
         → one.leaves.out ≡ two.leaves.out }
     ensures boxed { (name again : Text) (work other : Work) (form : FormChoice) (aim : Aim) (input : List ℕ)
         (boxed boxed2 : Boxed) (blocks bytes blocks2 bytes2 : ℕ) (tape tape2 : List TapeEntry)
         (old new old2 new2 : Meaning)
         → aim.limit ≤ most_bytes
-            → (one : EndsAround name work form aim input boxed status.Done blocks bytes tape old new)
-            → (two : EndsAround again other form aim input boxed2 status.Done blocks2 bytes2 tape2 old2 new2)
+        → (one : EndsAround name work form aim input boxed status.Done blocks bytes tape old new)
+        → (two : EndsAround again other form aim input boxed2 status.Done blocks2 bytes2 tape2 old2 new2)
         → file_in form input boxed one.out ≡ file_in form input boxed2 two.out }
 {
     one_stream();
@@ -192,7 +192,7 @@ pub fn kept_is_same()
     ensures { (aim : Aim) (limit : ℕ) (input out inner again : List ℕ) (from to : ℕ) (kept : IsKept aim inner again)
         → aim.reduce ≡ 0 → limit ≤ most_bytes → length input ≤ limit → length out ≤ limit
         → HasCodestream input from inner → HasCodestream out to again → totals_fault kept.after ≡ None
-            → SameVerdict limit input out status.Done }
+        → SameVerdict limit input out status.Done }
 {
     gathered_may_be_planned();
     whole_stays();
@@ -204,8 +204,8 @@ pub fn fewer_differ()
     ensures { (aim : Aim) (limit : ℕ) (input out inner again : List ℕ) (from to : ℕ) (kept : IsKept aim inner again)
         → 1 ≤ aim.reduce → limit ≤ most_bytes → length input ≤ limit → length out ≤ limit
         → HasCodestream input from inner → HasCodestream out to again → totals_fault kept.after ≡ None
-            → SameVerdict limit input out (status.Unlike
-            (unlike.Differs (fewer_difference aim.reduce (size_in kept.reads.whole.siz 0)))) }
+        → SameVerdict limit input out (status.Unlike
+        (unlike.Differs (fewer_difference aim.reduce (size_in kept.reads.whole.siz 0)))) }
 {
     gathered_may_be_planned();
     whole_stays();
@@ -217,7 +217,7 @@ pub fn as_many_are_same()
         (kept : IsKept aim input one) (again : IsKept more input two) → aim.reduce ≡ more.reduce
         → length input ≤ most_bytes
         → length first ≤ limit → length second ≤ limit → HasCodestream first at one → HasCodestream second to two
-            → totals_fault kept.after ≡ None → totals_fault again.after ≡ None
+        → totals_fault kept.after ≡ None → totals_fault again.after ≡ None
         → SameVerdict limit first second status.Done }
 {
     one_stream();
@@ -259,7 +259,7 @@ pub fn made_is_planned()
     ensures choices { (rule : List ℕ → StreamFacts → Option Rule) (m : Make) (number place : ℕ) → MayBeMade m
         → MayBeAimed (aim_made rule)
         → Verdict (aim_made rule) (input_of m) (status.Choice number place)
-            → (number ≡ 7) ⊎ ((number ≡ 6) × (place ≡ 0) × HasNoRule (aim_made rule) (input_of m)) }
+        → (number ≡ 7) ⊎ ((number ≡ 6) × (place ≡ 0) × HasNoRule (aim_made rule) (input_of m)) }
     ensures short { (rule : List ℕ → StreamFacts → Option Rule) (m : Make) (place : ℕ) → MayBeMade m
         → MayBeAimed (aim_made rule) → MakesOneLayer (aim_made rule)
         → Verdict (aim_made rule) (input_of m) (status.Choice 7 place) → ⊥ }

@@ -61,7 +61,7 @@ pub fn run<R: Threads + Wait + Sync, F: Files, S: Sink, G: Gate + Sync>(
         → F.can_open files.old (boxes_of (map string_bytes words.now)).name }
     requires compares { is_same (map string_bytes words.now) ≡ true
         → F.can_open files.old (same_of (map string_bytes words.now)).first
-            × F.can_open files.old (same_of (map string_bytes words.now)).second }
+        × F.can_open files.old (same_of (map string_bytes words.now)).second }
     requires shows { is_show (map string_bytes words.now) ≡ true
         → F.can_open files.old (show_of (map string_bytes words.now)).name }
     requires creates { is_good (map string_bytes words.now) ≡ true
@@ -93,7 +93,7 @@ pub fn run<R: Threads + Wait + Sync, F: Files, S: Sink, G: Gate + Sync>(
     // where the first is refused, what is left to be read is an end of it, which nothing is too
     ensures unopened { is_same (map string_bytes words.now) ≡ true → IsOfFirst result.status
         → IsStillRead (joined ((F.meaning files.old).holds (same_of (map string_bytes words.now)).first))
-            (F.meaning files.new).left }
+        (F.meaning files.new).left }
     ensures unshown { is_show (map string_bytes words.now) ≡ true
         → (F.meaning files.old).holds (show_of (map string_bytes words.now)).name ≡ Some None
         → EndsAsReadFault result.status (S.faults say.old) (S.faults say.new) }

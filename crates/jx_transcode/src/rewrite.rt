@@ -215,11 +215,11 @@ pub fn planned<'a, 'b: 'a>(
     requires wanted { MayBeWanted options.now }
     ensures plan { IfOk result (λ p. IsPlanned (chosen (λ b. serves_text b options.entry.now.layers)
         (λ b. rule_of b options.entry.now.layers
-            (facts_of picture.entry.now.stream picture.entry.now.blocks.items)) planners.old)
+        (facts_of picture.entry.now.stream picture.entry.now.blocks.items)) planners.old)
         picture.entry.now.stream picture.entry.now.blocks.items options.entry.now p) }
     ensures err { IfErr result (λ ending. IsUnplannedEnd (chosen (λ b. serves_text b options.entry.now.layers)
         (λ b. rule_of b options.entry.now.layers
-            (facts_of picture.entry.now.stream picture.entry.now.blocks.items)) planners.old)
+        (facts_of picture.entry.now.stream picture.entry.now.blocks.items)) planners.old)
         picture.entry.now.stream picture.entry.now.blocks.items options.entry.now ending) }
 {
     let blocks: &[Block<'_>] = &picture.blocks;

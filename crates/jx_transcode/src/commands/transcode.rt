@@ -64,14 +64,14 @@ fn answer<R: Threads + Wait + Sync, G: Gate + Sync, F: Files>(
     ensures bare { (IsJp2 input.now → ⊥) → IsAnswered to.now crew.now.work
         (aim_by task.now (λ text facts. chosen (λ b. serves_text b text) (λ b. rule_of b text facts) planners.old))
         input.now result.status result.blocks result.bytes result.tape.items (F.meaning files.old)
-            (F.meaning files.new) }
+        (F.meaning files.new) }
     ensures jp2 { IsJp2 input.now → EndsJp2 to.now crew.now.work task.now.form
         (aim_by task.now (λ text facts. chosen (λ b. serves_text b text) (λ b. rule_of b text facts) planners.old))
         input.now result.status result.blocks result.bytes result.tape.items (F.meaning files.old)
-            (F.meaning files.new) }
+        (F.meaning files.new) }
     ensures long { task.now.limit < length input.now
         → IsTooLong task.now.limit result.status result.blocks result.bytes result.tape.items (F.meaning files.old)
-            (F.meaning files.new) }
+        (F.meaning files.new) }
     ensures cause { result.status ≡ Status.WriteFault → Rose (F.write_faults files.old) (F.write_faults files.new) }
     ensures rose { F.write_faults files.old < F.write_faults files.new → result.status ≡ Status.WriteFault }
     ensures read { (result.status ≡ Status.ReadFault → ⊥) × (result.status ≡ Status.Words → ⊥) }
