@@ -225,7 +225,8 @@ fn same_cells(
 /// # Errors
 ///
 /// `NoMemory` where memory is refused.
-#[tactic(auto, using(crate::proofs::CellLemmas::alike_from, crate::proofs::CellLemmas::cells_alike, crate::proofs::CellLemmas::none_alike))]
+#[tactic(auto, using(crate::proofs::CellLemmas::alike_from, crate::proofs::CellLemmas::cells_alike,
+    crate::proofs::CellLemmas::none_alike))]
 pub(crate) fn are_alike(alloc: Global, a: &Block<'_>, b: &Block<'_>) -> Result<bool, NoMemory>
     requires one { IsSound a.now }
     requires two { IsSound b.now }
