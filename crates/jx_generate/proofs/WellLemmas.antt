@@ -48,6 +48,7 @@ laid_0 seed w h sizes =
     let size : ℕ = length (body_made seed w h) in
     record {
       order = subst (λ (list : List PacketName). IsListOf (stream_made w h size) 0 list) (sym (append-nil names_made)) (order_0 w h size sizes);
+      in_place = refl;
       written = all_written seed w h size sizes;
       filled = all_filled seed w h;
     }
