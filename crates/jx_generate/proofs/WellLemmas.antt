@@ -1,5 +1,5 @@
 -- A made file is well formed, and within the limits.
-use Rattle.std.proofs.Common.{◌≡◌, ℕ, ◌+◌, ◌^◌, ◌≤◌, ◌<◌, List, [], ◌∷◌, ◌++◌, length, sym, subst, arith, append-nil, length-append}
+use Rattle.std.proofs.Common.{◌≡◌, ℕ, ◌+◌, ◌^◌, ◌≤◌, ◌<◌, List, [], ◌∷◌, ◌++◌, length, refl, sym, subst, arith, append-nil, length-append}
 use Rattle.jx_geom.specs.Geometry.{Geometry}
 use Rattle.jx_marker.specs.Codes.{EOC}
 use Rattle.jx_marker.specs.Values.{canvas_bytes}
