@@ -91,15 +91,15 @@ module _ (ps : Option (List ℕ)) (st : Option Style) (own other main there : Li
       (alike_or ps st (in_slot slot main) (in_slot slot there) (in_slot default main) (in_slot default there) (mains slot a) (mains default b)))
 
   pub shape_same : (comp : ℕ) → shape_of own main comp ≡ option_map (shape_written ps st) (shape_of other there comp)
-  shape_same comp = (chosen_alike (5 + 3 * comp) 1 (own_gives 5 comp (omega arith)) refl).shape
+  shape_same comp = (chosen_alike (261 + 3 * comp) 1 (own_gives 261 comp (omega arith)) refl).shape
 
   pub quant_same : (comp : ℕ) → quant_of own main comp ≡ quant_of other there comp
-  quant_same comp = (chosen_alike (6 + 3 * comp) 2 (own_gives 6 comp (omega arith)) refl).quant
+  quant_same comp = (chosen_alike (262 + 3 * comp) 2 (own_gives 262 comp (omega arith)) refl).quant
 
   pub shift_same : (comp : ℕ) → shift_of own main comp ≡ shift_of other there comp
   shift_same comp =
-      let g = own_gives 7 comp (omega arith) in
-      (alike_or ps st (in_slot (7 + 3 * comp) own) (in_slot (7 + 3 * comp) other) (in_slot (7 + 3 * comp) main) (in_slot (7 + 3 * comp) there) (here (7 + 3 * comp) g) (mains (7 + 3 * comp) g)).shift
+      let g = own_gives 263 comp (omega arith) in
+      (alike_or ps st (in_slot (263 + 3 * comp) own) (in_slot (263 + 3 * comp) other) (in_slot (263 + 3 * comp) main) (in_slot (263 + 3 * comp) there) (here (263 + 3 * comp) g) (mains (263 + 3 * comp) g)).shift
 
   few_at : (comp : ℕ) → has_too_few (quant_of own main comp) (shape_of own main comp) ≡ has_too_few (quant_of other there comp) (shape_of other there comp)
   few_at comp = rw (quant_same comp, shape_same comp) (few_kept ps st (quant_of other there comp) (shape_of other there comp))

@@ -3,7 +3,7 @@ use Rattle.std.proofs.Common.{◌≡◌, ◌<◌, ◌≤◌, ◌+◌, ◌*◌, �
 use Rattle.std.specs.List.{All, list_any, position, position_or_len, range_with_len}
 use Rattle.std.specs.Option.{option_or}
 use Rattle.std.specs.Bool.{Decides}
-use Rattle.std.proofs.lemmas.Bool.{cases_lt, eq-eqb, eqb-true, or_parts}
+use Rattle.std.proofs.lemmas.Bool.{cases_lt, eq-eqb, eqb-true, ne_eqb, or_parts, true≢false}
 use Rattle.std.proofs.lemmas.Bool.Decides.{nat_tests}
 use Rattle.std.proofs.lemmas.List.{get_or-map, get_or_default}
 use Rattle.std.proofs.lemmas.List.Elements.{All-head, All-tail}
@@ -26,6 +26,7 @@ use Rattle.jx_codestream.specs.Params.{header_of, precinct_of, precincts_of, sha
 use Rattle.jx_codestream.specs.Shapes.{comp_shape, no_tile, shapes_in, shapes_of}
 use Rattle.jx_codestream.specs.Params.{headers_at}
 use Rattle.jx_codestream.specs.Tiles.{in_slot}
+use Rattle.jx_codestream.proofs.KindLemmas.{coc_slot, cod_slot}
 use Rattle.jx_codestream.proofs.SegmentLemmas.{segments_fit}
 use Rattle.jx_plan.specs.declared.faults.Misfit.{Misfit}
 use Rattle.jx_plan.specs.Fits.{CompKeeps, Fits, IsChangedFrom, IsMisfitAt, IsMisfitIn, IsSameAt, KeepsBlocks, has_zero, shape_has_zero, tile_has_zero}
@@ -176,33 +177,19 @@ module _ (s t : CompShape) (r a b d e : ℕ) (own_across : a ≡ block_across s 
   )
 
 -- ---- tiles whose headers have neither COD nor COC
-no_slot : (s : Segment) (n comp : ℕ) → is_coding s ≡ false → (n ≡ 1) → (slot_of s == n) ≡ false
-no_slot (segment.Cod cod) n comp h e = absurd (cc)
-no_slot (segment.Coc c shape) n comp h e = absurd (cc)
-no_slot (segment.Qcd quant) n comp h e = grind (arith, nat_tests)
-no_slot (segment.Poc entries) n comp h e = grind (arith, nat_tests)
-no_slot (segment.Crg bytes) n comp h e = grind (arith, nat_tests)
-no_slot (segment.Qcc c quant) n comp h e = grind (arith, nat_tests)
-no_slot (segment.Rgn c shift) n comp h e = grind (arith, nat_tests)
-no_slot _ n comp h e = grind (arith, nat_tests)
+no_slot : (s : Segment) → is_coding s ≡ false → (slot_of s == 1) ≡ false
+no_slot s h = ne_eqb (slot_of s) 1 (λ e. let is = (cod_slot s).0 e in absurd (true≢false (sym (ap is_coding is.1) ∙ h)))
 
-other_slot : (s : Segment) (n comp : ℕ) → is_coding s ≡ false → (n ≡ 5 + 3 * comp) → (slot_of s == n) ≡ false
-other_slot (segment.Cod cod) n comp h e = absurd (cc)
-other_slot (segment.Coc c shape) n comp h e = absurd (cc)
-other_slot (segment.Qcd quant) n comp h e = grind (arith, nat_tests)
-other_slot (segment.Poc entries) n comp h e = grind (arith, nat_tests)
-other_slot (segment.Crg bytes) n comp h e = grind (arith, nat_tests)
-other_slot (segment.Qcc c quant) n comp h e = grind (arith, nat_tests)
-other_slot (segment.Rgn c shift) n comp h e = grind (arith, nat_tests)
-other_slot _ n comp h e = grind (arith, nat_tests)
+other_slot : (s : Segment) (c : ℕ) → is_coding s ≡ false → (slot_of s == 261 + 3 * c) ≡ false
+other_slot s c h = ne_eqb (slot_of s) (261 + 3 * c) (λ e. let is = (coc_slot s c).0 e in absurd (true≢false (sym (ap is_coding is.1) ∙ h)))
 
 empty_slot : (n : ℕ) (ss : List Segment) → ((s : Segment) → is_coding s ≡ false → (slot_of s == n) ≡ false) → list_any is_coding ss ≡ false → in_slot n ss ≡ None
 empty_slot n [] apart none = refl
 empty_slot n (s ∷ ss) apart none = rw (apart s ((or_parts (is_coding s) (list_any is_coding ss) none).0)) (empty_slot n ss apart ((or_parts (is_coding s) (list_any is_coding ss) none).1))
 
-shape_from_main : (own main : List Segment) (c : ℕ) → list_any is_coding own ≡ false → shape_of own main c ≡ shape_in (option_or (in_slot (5 + 3 * c) main) (in_slot 1 main))
+shape_from_main : (own main : List Segment) (c : ℕ) → list_any is_coding own ≡ false → shape_of own main c ≡ shape_in (option_or (in_slot (261 + 3 * c) main) (in_slot 1 main))
 shape_from_main own main c none =
-    rw (empty_slot (5 + 3 * c) own (λ s h. other_slot s (5 + 3 * c) c h refl) none, empty_slot 1 own (λ s h. no_slot s 1 c h refl) none) refl
+    rw (empty_slot (261 + 3 * c) own (λ s h. other_slot s c h) none, empty_slot 1 own no_slot none) refl
 
 shape_alike : (own other main : List Segment) (c : ℕ) → list_any is_coding own ≡ false → list_any is_coding other ≡ false → shape_of own main c ≡ shape_of other main c
 shape_alike own other main c h k = shape_from_main own main c h ∙ sym (shape_from_main other main c k)

@@ -1,5 +1,5 @@
 -- What is written of a header is a header, and comments and packet lengths may follow it.
-use Rattle.std.proofs.Common.{◌≡◌, ◌<◌, ◌+◌, ◌-◌, ◌==◌, ℕ, false, nat_lt, min, cond, arith, List, [], ◌∷◌, ◌++◌, length, refl, sym, subst, Option, None, Some, inl, inr, ◌∙◌}
+use Rattle.std.proofs.Common.{◌≡◌, ◌<◌, ◌+◌, ◌-◌, ◌==◌, ◌&&◌, ℕ, Bool, false, nat_lt, min, cond, arith, List, [], ◌∷◌, ◌++◌, length, refl, sym, ap, subst, Option, None, Some, inl, inr, ◌∙◌}
 use Rattle.std.specs.Prelude.{IfSome}
 use Rattle.std.specs.List.{All, list_any}
 use Rattle.std.proofs.lemmas.Bool.{cases_Bool, or_parts}
@@ -13,8 +13,8 @@ use Rattle.jx_marker.specs.declared.Segment.TheVariants as segment
 use Rattle.jx_marker.specs.declared.Shape.{Shape}
 use Rattle.jx_marker.specs.Ranges.{InRange, AreBytes, ShapeInRange}
 use Rattle.jx_codestream.specs.declared.headers.HeaderKind.{HeaderKind}
-use Rattle.jx_codestream.specs.declared.headers.HeaderKind.TheVariants.{Main, First, Later}
-use Rattle.jx_codestream.specs.Headers.{slot_of, has_slot, is_second, stands_in, ends_header}
+use Rattle.jx_codestream.specs.declared.headers.HeaderKind.TheVariants.{Main, First, Later, PackedFirst, PackedLater}
+use Rattle.jx_codestream.specs.Headers.{slot_of, has_slot, is_second, stands_in, ends_header, is_beside_ppm, is_ppt}
 use Rattle.jx_codestream.specs.Spells.{IsSegment, AreSegments}
 use Rattle.jx_plan.specs.Headers.{HeaderOptions, MayBeInHeaders, item_at, bytes_for, order_written, precincts_written, shape_written, style_written, written, is_written, all_written}
 use Rattle.jx_plan.specs.Fits.{shape_has_zero, has_zero}
@@ -124,10 +124,19 @@ stands_kept : (kind : HeaderKind) (a : HeaderOptions) (s : Segment) → stands_i
 stands_kept Main a (segment.Cod cod) = refl
 stands_kept First a (segment.Cod cod) = refl
 stands_kept Later a (segment.Cod cod) = refl
+stands_kept PackedFirst a (segment.Cod cod) = refl
+stands_kept PackedLater a (segment.Cod cod) = refl
 stands_kept Main a (segment.Coc comp shape) = refl
 stands_kept First a (segment.Coc comp shape) = refl
 stands_kept Later a (segment.Coc comp shape) = refl
+stands_kept PackedFirst a (segment.Coc comp shape) = refl
+stands_kept PackedLater a (segment.Coc comp shape) = refl
 stands_kept kind a _ = refl
+
+ppt_kept : (a : HeaderOptions) (s : Segment) → is_ppt (written a s) ≡ is_ppt s
+ppt_kept a (segment.Cod cod) = refl
+ppt_kept a (segment.Coc comp shape) = refl
+ppt_kept a _ = refl
 
 inside_kept : (a : HeaderOptions) (s : Segment) → ends_header (written a s) ≡ ends_header s
 inside_kept a (segment.Cod cod) = refl
@@ -139,6 +148,7 @@ segment_written : (a : HeaderOptions) (kind : HeaderKind) (comps : ℕ) (xs ys :
 segment_written a kind comps xs ys s may h f is = record {
   range = range_kept a comps s may h is.range;
   stands = stands_kept kind a s ∙ is.stands;
+  once_packed = ap (λ (ppt : Bool). is_beside_ppm kind && ppt) (ppt_kept a s) ∙ is.once_packed;
   inside = inside_kept a s ∙ is.inside;
   once = once_kept a xs ys s f is.once;
 }
@@ -159,13 +169,13 @@ segments_written a kind comps xs ys (s ∷ ss) may h f are =
 -- comments and packet lengths
 
 aside_first : (comps : ℕ) (before : List Segment) (s : Segment) → IsAside comps s → IsSegment First comps before s
-aside_first comps before (segment.Com bytes) h = record { range = h.range; stands = refl; inside = refl; once = refl }
-aside_first comps before (segment.Plt bytes) h = record { range = h.range; stands = refl; inside = refl; once = refl }
+aside_first comps before (segment.Com bytes) h = record { range = h.range; stands = refl; once_packed = refl; inside = refl; once = refl }
+aside_first comps before (segment.Plt bytes) h = record { range = h.range; stands = refl; once_packed = refl; inside = refl; once = refl }
 aside_first comps before _ h = absurd (let e = h.is in cc)
 
 aside_later : (comps : ℕ) (before : List Segment) (s : Segment) → IsAside comps s → IsSegment Later comps before s
-aside_later comps before (segment.Com bytes) h = record { range = h.range; stands = refl; inside = refl; once = refl }
-aside_later comps before (segment.Plt bytes) h = record { range = h.range; stands = refl; inside = refl; once = refl }
+aside_later comps before (segment.Com bytes) h = record { range = h.range; stands = refl; once_packed = refl; inside = refl; once = refl }
+aside_later comps before (segment.Plt bytes) h = record { range = h.range; stands = refl; once_packed = refl; inside = refl; once = refl }
 aside_later comps before _ h = absurd (let e = h.is in cc)
 
 pub asides_later : (comps : ℕ) (before more : List Segment) → All (IsAside comps) more → AreSegments Later comps before more

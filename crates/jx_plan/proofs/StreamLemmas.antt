@@ -105,13 +105,13 @@ coded_at s stand t =
 
 -- and the shape of a component
 
-pub shaped_at : (s : Stream) → HeadersStand s → (t c : ℕ) → IsShaped (chosen (5 + 3 * c) 1 (header_of s t) s.main)
+pub shaped_at : (s : Stream) → HeadersStand s → (t c : ℕ) → IsShaped (chosen (261 + 3 * c) 1 (header_of s t) s.main)
 shaped_at s stand t c =
     let comps = length s.siz.comps in
     let own = headers_fit comps s.tiles t stand.each in
     let main = segments_fit Main comps [] s.main stand.main in
-    shape_there comps c _ (chosen_fits comps (5 + 3 * c) 1 (header_of s t) s.main own main)
-    (chosen_there (5 + 3 * c) 1 (header_of s t) s.main (defaults_there s.main stand.defaults).0)
+    shape_there comps c _ (chosen_fits comps (261 + 3 * c) 1 (header_of s t) s.main own main)
+    (chosen_there (261 + 3 * c) 1 (header_of s t) s.main (defaults_there s.main stand.defaults).0)
 
 there_by : (ps : Option (List ℕ)) (o : Option Shape) (shape : Shape) → o ≡ Some shape → IsThere ps o
 there_by None o shape e = tt

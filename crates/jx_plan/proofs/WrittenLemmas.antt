@@ -1,7 +1,8 @@
 -- What is written of a header says the same as the header, but for COD's marks, order and layers, and for precincts and style.
-use Rattle.std.proofs.Common.{◌≡◌, ◌+◌, ◌==◌, ℕ, true, false, arith, List, [], ◌∷◌, ◌++◌, map, refl, sym, ap, ◌∙◌, Option, Some, None, inl, inr}
+use Rattle.std.proofs.Common.{◌≡◌, ◌+◌, ◌%◌, ◌<◌, ◌==◌, ℕ, true, false, arith, List, [], ◌∷◌, ◌++◌, map, refl, sym, ap, ◌∙◌, Option, Some, None, inl, inr}
 use Rattle.std.specs.List.{All, range_with_len}
 use Rattle.std.specs.Option.{option_map}
+use Rattle.std.proofs.Math.Nat.{mod-lt}
 use Rattle.std.proofs.lemmas.Bool.Decides.{nat_tests}
 use Rattle.std.proofs.lemmas.Bool.{cases_Bool}
 use Rattle.std.proofs.lemmas.List.FromFn.{map-range_with_len_more}
@@ -26,13 +27,19 @@ slot_kept a (segment.Coc comp shape) = refl
 slot_kept a _ = refl
 
 -- what is left out gives nothing
+not_between : (n slot : ℕ) → gives slot ≡ true → 4 < n → n < 261 → (n == slot) ≡ false
+not_between n slot g more less = grind (arith, nat_tests)
+
+packed_gives : (index slot : ℕ) → gives slot ≡ true → (5 + index % 256 == slot) ≡ false
+packed_gives index slot g = let low : index % 256 < 256 = mod-lt index (omega arith) in not_between (5 + index % 256) slot g (omega arith) (omega arith)
+
 left_out : (s : Segment) (slot : ℕ) → is_written s ≡ false → gives slot ≡ true → (slot_of s == slot) ≡ false
 left_out (segment.Poc entries) slot h g = grind (arith, nat_tests)
 left_out (segment.Plt bytes) slot h g = grind (arith, nat_tests)
 left_out (segment.Plm bytes) slot h g = grind (arith, nat_tests)
 left_out (segment.Tlm bytes) slot h g = grind (arith, nat_tests)
-left_out (segment.Ppm index bytes) slot h g = grind (arith, nat_tests)
-left_out (segment.Ppt index bytes) slot h g = grind (arith, nat_tests)
+left_out (segment.Ppm index bytes) slot h g = packed_gives index slot g
+left_out (segment.Ppt index bytes) slot h g = packed_gives index slot g
 left_out (segment.Skipped code) slot h g = grind (arith, nat_tests)
 left_out _ slot h g = absurd (cc)
 

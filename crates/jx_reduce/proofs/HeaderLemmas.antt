@@ -94,15 +94,15 @@ module _ (d : ℕ) (own main : List Segment) where
       (or_both f _ _ (in_slot slot main) (in_slot default main) (in_slot_left d slot main) (in_slot_left d default main)))
 
   pub shape_of_left : (comp : ℕ) → shape_of (map (segment_left d) own) (map (segment_left d) main) comp ≡ option_map (shape_left d) (shape_of own main comp)
-  shape_of_left comp = ap shape_in (chosen_left (5 + 3 * comp) 1) ∙ shape_in_left d (chosen (5 + 3 * comp) 1 own main)
+  shape_of_left comp = ap shape_in (chosen_left (261 + 3 * comp) 1) ∙ shape_in_left d (chosen (261 + 3 * comp) 1 own main)
 
   pub quant_of_left : (comp : ℕ) → quant_of (map (segment_left d) own) (map (segment_left d) main) comp ≡ quant_of own main comp
-  quant_of_left comp = ap quant_in (chosen_left (6 + 3 * comp) 2) ∙ quant_in_left d (chosen (6 + 3 * comp) 2 own main)
+  quant_of_left comp = ap quant_in (chosen_left (262 + 3 * comp) 2) ∙ quant_in_left d (chosen (262 + 3 * comp) 2 own main)
 
   pub shift_of_left : (comp : ℕ) → shift_of (map (segment_left d) own) (map (segment_left d) main) comp ≡ shift_of own main comp
   shift_of_left comp =
-      ap shift_in (or_both (segment_left d) _ _ (in_slot (7 + 3 * comp) own) (in_slot (7 + 3 * comp) main) (in_slot_left d (7 + 3 * comp) own) (in_slot_left d (7 + 3 * comp) main))
-      ∙ shift_in_left d (option_or (in_slot (7 + 3 * comp) own) (in_slot (7 + 3 * comp) main))
+      ap shift_in (or_both (segment_left d) _ _ (in_slot (263 + 3 * comp) own) (in_slot (263 + 3 * comp) main) (in_slot_left d (263 + 3 * comp) own) (in_slot_left d (263 + 3 * comp) main))
+      ∙ shift_in_left d (option_or (in_slot (263 + 3 * comp) own) (in_slot (263 + 3 * comp) main))
 
   pub cod_of_left : cod_of (map (segment_left d) own) (map (segment_left d) main) ≡ option_map (cod_left d) (cod_of own main)
   cod_of_left =
@@ -176,7 +176,7 @@ holds_levels d (Some _) shape h e = absurd (cc)
 pub levels_enough : (d : ℕ) (own main : List Segment) (comp : ℕ) (shape : Shape) → All (λ (x : Segment). has_fewer d x ≡ false) own → All (λ (x : Segment). has_fewer d x ≡ false) main
     → shape_of own main comp ≡ Some shape → d ≤ shape.levels
 levels_enough d own main comp shape here there e =
-    holds_levels d (chosen (5 + 3 * comp) 1 own main) shape
-    (holds_or d (in_slot (5 + 3 * comp) own) _ (holds_slot d (5 + 3 * comp) own here)
+    holds_levels d (chosen (261 + 3 * comp) 1 own main) shape
+    (holds_or d (in_slot (261 + 3 * comp) own) _ (holds_slot d (261 + 3 * comp) own here)
     (holds_or d (in_slot 1 own) _ (holds_slot d 1 own here)
-    (holds_or d (in_slot (5 + 3 * comp) main) (in_slot 1 main) (holds_slot d (5 + 3 * comp) main there) (holds_slot d 1 main there)))) e
+    (holds_or d (in_slot (261 + 3 * comp) main) (in_slot 1 main) (holds_slot d (261 + 3 * comp) main there) (holds_slot d 1 main there)))) e

@@ -20,10 +20,10 @@ use Rattle.jx_marker.specs.declared.Quant.{Quant}
 use Rattle.jx_marker.specs.Rules.{comp_size_fits, has_zero_exponent}
 use Rattle.jx_marker.specs.Ranges.{CompSizeInRange, InRange, ShapeInRange, SizInRange}
 use Rattle.jx_codestream.specs.declared.headers.HeaderKind.{HeaderKind}
-use Rattle.jx_codestream.specs.declared.headers.HeaderKind.TheVariants.{Main, First, Later}
+use Rattle.jx_codestream.specs.declared.headers.HeaderKind.TheVariants.{Main, First, Later, PackedFirst, PackedLater}
 use Rattle.jx_codestream.specs.declared.Tile.{Tile}
 use Rattle.jx_codestream.specs.declared.Stream.{Stream}
-use Rattle.jx_codestream.specs.Headers.{ends_header, is_second, slot_of, stands_in}
+use Rattle.jx_codestream.specs.Headers.{ends_header, is_beside_ppm, is_ppt, is_second, slot_of, stands_in}
 use Rattle.jx_codestream.specs.First.{lacks_default, tiles_fault}
 use Rattle.jx_codestream.specs.Params.{band_count, band_planes, exponent_of, has_too_few, limit_4_of, not_one, planes_of, quant_of, shape_of, shift_of, tile_has_too_few, tile_planes}
 use Rattle.jx_codestream.specs.Spells.{AreSegments, IsSegment}
@@ -119,10 +119,19 @@ stands_left : (kind : HeaderKind) (d : ℕ) (s : Segment) → stands_in kind (se
 stands_left Main d (segment.Cod cod) = refl
 stands_left First d (segment.Cod cod) = refl
 stands_left Later d (segment.Cod cod) = refl
+stands_left PackedFirst d (segment.Cod cod) = refl
+stands_left PackedLater d (segment.Cod cod) = refl
 stands_left Main d (segment.Coc comp shape) = refl
 stands_left First d (segment.Coc comp shape) = refl
 stands_left Later d (segment.Coc comp shape) = refl
+stands_left PackedFirst d (segment.Coc comp shape) = refl
+stands_left PackedLater d (segment.Coc comp shape) = refl
 stands_left kind d _ = refl
+
+ppt_left : (d : ℕ) (s : Segment) → is_ppt (segment_left d s) ≡ is_ppt s
+ppt_left d (segment.Cod cod) = refl
+ppt_left d (segment.Coc comp shape) = refl
+ppt_left d _ = refl
 
 inside_left : (d : ℕ) (s : Segment) → ends_header (segment_left d s) ≡ ends_header s
 inside_left d (segment.Cod cod) = refl
@@ -136,6 +145,7 @@ segment_stands : (kind : HeaderKind) (d comps : ℕ) (before : List Segment) (s 
 segment_stands kind d comps before s is = record {
   range = range_left d comps s is.range;
   stands = stands_left kind d s ∙ is.stands;
+  once_packed = ap (λ (ppt : Bool). is_beside_ppm kind && ppt) (ppt_left d s) ∙ is.once_packed;
   inside = inside_left d s ∙ is.inside;
   once = once_left d before s ∙ is.once;
 }

@@ -173,8 +173,9 @@ fn tiles_left(alloc: Global, tiles: &[Tile], d: u8) -> Result<Tiles, NoMemory>
     Ok(Tiles::new(left))
 }
 
-/// The headers of a stream without `d` resolutions, where no factor passes 255. Where tile data stand stays as it is. Time and memory
-/// follow the bytes of the headers and the number of tiles and tile-parts.
+/// The headers of a stream without `d` resolutions, where no factor passes 255. Where tile data and packed packet
+/// headers stand stays as it is. Time and memory follow the bytes of the headers and the number of tiles, tile-parts
+/// and pieces of packed headers.
 ///
 /// # Errors
 ///

@@ -107,35 +107,35 @@ steps_same : (l l' : ℕ) (q q' : Option Quant) (n : ℕ) → l ≡ l' → q ≡
 steps_same l l' q q' n e1 e2 = rw (e1, e2) refl
 
 -- ---- headers of which all segments say the same
-of_coc : (c : ℕ) → AreOf true (5 + 3 * c)
+of_coc : (c : ℕ) → AreOf true (261 + 3 * c)
 of_coc c s e = let is = (coc_slot s c).0 e in ap (concerns true) is.1
 
-of_qcc : (c : ℕ) → AreOf true (6 + 3 * c)
+of_qcc : (c : ℕ) → AreOf true (262 + 3 * c)
 of_qcc c s e = let is = (qcc_slot s c).0 e in ap (concerns true) is.1
 
-of_rgn : (c : ℕ) → AreOf true (7 + 3 * c)
+of_rgn : (c : ℕ) → AreOf true (263 + 3 * c)
 of_rgn c s e = let is = (rgn_slot s c).0 e in ap (concerns true) is.1
 
 pub same_by_all : (c : ℕ) (h k : List Segment) → sayings true h ≡ sayings true k → SaySame c h k
 same_by_all c h k e = record {
   cod = slot_same true 1 (of_cod true) h k e;
   qcd = slot_same true 2 (of_qcd true) h k e;
-  coc = slot_same true (5 + 3 * c) (of_coc c) h k e;
-  qcc = slot_same true (6 + 3 * c) (of_qcc c) h k e;
-  rgn = slot_same true (7 + 3 * c) (of_rgn c) h k e;
+  coc = slot_same true (261 + 3 * c) (of_coc c) h k e;
+  qcc = slot_same true (262 + 3 * c) (of_qcc c) h k e;
+  rgn = slot_same true (263 + 3 * c) (of_rgn c) h k e;
 }
 
 -- ---- headers of which the defaults say the same, and that don't name the component
 abbrev Names : ℕ → ℕ → Type 0
 Names c slot = (s : Segment) → slot_of s ≡ slot → is_comp c (comp_named s) ≡ true
 
-named_coc : (c : ℕ) → Names c (5 + 3 * c)
+named_coc : (c : ℕ) → Names c (261 + 3 * c)
 named_coc c s e = let is = (coc_slot s c).0 e in ap (λ (x : Segment). is_comp c (comp_named x)) is.1 ∙ eq-eqb c c refl
 
-named_qcc : (c : ℕ) → Names c (6 + 3 * c)
+named_qcc : (c : ℕ) → Names c (262 + 3 * c)
 named_qcc c s e = let is = (qcc_slot s c).0 e in ap (λ (x : Segment). is_comp c (comp_named x)) is.1 ∙ eq-eqb c c refl
 
-named_rgn : (c : ℕ) → Names c (7 + 3 * c)
+named_rgn : (c : ℕ) → Names c (263 + 3 * c)
 named_rgn c s e = let is = (rgn_slot s c).0 e in ap (λ (x : Segment). is_comp c (comp_named x)) is.1 ∙ eq-eqb c c refl
 
 no_own : (c slot : ℕ) → Names c slot → (ss : List Segment) → has_named c ss ≡ false → in_slot slot ss ≡ None
@@ -154,9 +154,9 @@ pub same_by_defaults : (c : ℕ) (h k : List Segment) → sayings false h ≡ sa
 same_by_defaults c h k e one two = record {
   cod = slot_same false 1 (of_cod false) h k e;
   qcd = slot_same false 2 (of_qcd false) h k e;
-  coc = neither_own c (5 + 3 * c) (named_coc c) h k one two;
-  qcc = neither_own c (6 + 3 * c) (named_qcc c) h k one two;
-  rgn = neither_own c (7 + 3 * c) (named_rgn c) h k one two;
+  coc = neither_own c (261 + 3 * c) (named_coc c) h k one two;
+  qcc = neither_own c (262 + 3 * c) (named_qcc c) h k one two;
+  rgn = neither_own c (263 + 3 * c) (named_rgn c) h k one two;
 }
 
 same_self : (c : ℕ) (h : List Segment) → SaySame c h h
@@ -171,8 +171,8 @@ module _ (c : ℕ) where
         (or_same saying_of (in_slot default h) (in_slot default k) _ _ e2
         (or_same saying_of (in_slot slot m) (in_slot slot n) _ _ e3 e4))
 
-    shape_chosen : option_map saying_of (chosen (5 + 3 * c) 1 h m) ≡ option_map saying_of (chosen (5 + 3 * c) 1 k n)
-    shape_chosen = chosen_same (5 + 3 * c) 1 own.coc own.cod main.coc main.cod
+    shape_chosen : option_map saying_of (chosen (261 + 3 * c) 1 h m) ≡ option_map saying_of (chosen (261 + 3 * c) 1 k n)
+    shape_chosen = chosen_same (261 + 3 * c) 1 own.coc own.cod main.coc main.cod
 
     first_same : (slot : ℕ) → saying_in slot h ≡ saying_in slot k → saying_in slot m ≡ saying_in slot n
         → option_map saying_of (option_or (in_slot slot h) (in_slot slot m)) ≡ option_map saying_of (option_or (in_slot slot k) (in_slot slot n))
@@ -188,10 +188,10 @@ module _ (c : ℕ) where
     transform_same = taken_same (λ (x : Option Segment). (cod_or (cod_in x)).transform) (λ (x : Saying). x.said.transform) transform_said _ _ (first_same 1 own.cod main.cod)
 
     quant_same : quant_of h m c ≡ quant_of k n c
-    quant_same = taken_same quant_in (λ (x : Saying). x.quant) (λ s. refl) _ _ (chosen_same (6 + 3 * c) 2 own.qcc own.qcd main.qcc main.qcd)
+    quant_same = taken_same quant_in (λ (x : Saying). x.quant) (λ s. refl) _ _ (chosen_same (262 + 3 * c) 2 own.qcc own.qcd main.qcc main.qcd)
 
     shift_same : shift_of h m c ≡ shift_of k n c
-    shift_same = taken_same shift_in (λ (x : Saying). x.said.shift) shift_said _ _ (first_same (7 + 3 * c) own.rgn main.rgn)
+    shift_same = taken_same shift_in (λ (x : Saying). x.said.shift) shift_said _ _ (first_same (263 + 3 * c) own.rgn main.rgn)
 
     pub component_same : component_of (params_by h m c) ≡ component_of (params_by k n c)
     unfolding component_from

@@ -1,6 +1,8 @@
 -- Tiles whose headers say nothing of their components share what the main headers say.
-use Rattle.std.proofs.Common.{◌≡◌, ◌∙◌, ◌+◌, ◌-◌, ◌<◌, ◌≤◌, ℕ, List, [], ◌∷◌, length, ap, refl, sym, subst, arith, Bool, true, false, ◌||◌, Option, None}
+use Rattle.std.proofs.Common.{◌≡◌, ◌∙◌, ◌+◌, ◌-◌, ◌%◌, ◌<◌, ◌≤◌, ℕ, List, [], ◌∷◌, length, ap, refl, sym, subst, arith, Bool, true, false, ◌||◌, Option, None}
 use Rattle.std.specs.List.{find}
+use Rattle.std.proofs.Math.Nat.{mod-lt}
+use Rattle.std.proofs.lemmas.Bool.Decides.{nat_tests}
 use Rattle.jx_base.specs.declared.names.Band.{Band}
 use Rattle.jx_base.specs.declared.pieces.Block.{Block}
 use Rattle.jx_base.specs.Joined.{joined}
@@ -34,22 +36,28 @@ use Rattle.jx_same.proofs.TileLemmas.{side_of}
 use Rattle.jx_same.proofs.WithinLemmas.{bands_all, none_coding, none_step}
 
 -- ---- segments that give parameters
+none_between : (n : ℕ) → 4 < n → n < 261 → gives n ≡ false
+none_between n more less = grind (arith, nat_tests)
+
+packed_gives : (index : ℕ) → gives (5 + index % 256) ≡ false
+packed_gives index = let low : index % 256 < 256 = mod-lt index (omega arith) in none_between (5 + index % 256) (omega arith) (omega arith)
+
 gives_is : (s : Segment) → gives (slot_of s) ≡ gives_parameters s
 gives_is segment.Soc = refl
 gives_is (segment.Siz siz) = refl
 gives_is (segment.Cod cod) = refl
-gives_is (segment.Coc comp shape) = own_gives 5 comp (omega arith)
+gives_is (segment.Coc comp shape) = own_gives 261 comp (omega arith)
 gives_is (segment.Qcd quant) = refl
-gives_is (segment.Qcc comp quant) = own_gives 6 comp (omega arith)
-gives_is (segment.Rgn comp shift) = own_gives 7 comp (omega arith)
+gives_is (segment.Qcc comp quant) = own_gives 262 comp (omega arith)
+gives_is (segment.Rgn comp shift) = own_gives 263 comp (omega arith)
 gives_is (segment.Poc entries) = refl
 gives_is (segment.Crg bytes) = refl
 gives_is (segment.Com bytes) = refl
 gives_is (segment.Plt bytes) = refl
 gives_is (segment.Plm bytes) = refl
 gives_is (segment.Tlm bytes) = refl
-gives_is (segment.Ppm index bytes) = refl
-gives_is (segment.Ppt index bytes) = refl
+gives_is (segment.Ppm index bytes) = packed_gives index
+gives_is (segment.Ppt index bytes) = packed_gives index
 gives_is (segment.Sot sot) = refl
 gives_is segment.Sod = refl
 gives_is segment.Eoc = refl

@@ -16,10 +16,10 @@ use Rattle.jx_same.specs.declared.sayings.Said.{Said}
 -- the numbers of a segment, without those of quantization
 abbrev pub said_of : Segment → Said
 said_of (segment.Cod cod) = record { slot = 1; levels = cod.shape.levels; wavelet = cod.shape.wavelet; transform = cod.transform; shift = 0 }
-said_of (segment.Coc comp shape) = record { slot = 5 + 3 * comp; levels = shape.levels; wavelet = shape.wavelet; transform = 0; shift = 0 }
+said_of (segment.Coc comp shape) = record { slot = 261 + 3 * comp; levels = shape.levels; wavelet = shape.wavelet; transform = 0; shift = 0 }
 said_of (segment.Qcd quant) = record { slot = 2; levels = 0; wavelet = 0; transform = 0; shift = 0 }
-said_of (segment.Qcc comp quant) = record { slot = 6 + 3 * comp; levels = 0; wavelet = 0; transform = 0; shift = 0 }
-said_of (segment.Rgn comp shift) = record { slot = 7 + 3 * comp; levels = 0; wavelet = 0; transform = 0; shift = shift }
+said_of (segment.Qcc comp quant) = record { slot = 262 + 3 * comp; levels = 0; wavelet = 0; transform = 0; shift = 0 }
+said_of (segment.Rgn comp shift) = record { slot = 263 + 3 * comp; levels = 0; wavelet = 0; transform = 0; shift = shift }
 said_of _ = record { slot = 0; levels = 0; wavelet = 0; transform = 0; shift = 0 }
 
 pub record Saying : Type 0 where

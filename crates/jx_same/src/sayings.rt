@@ -45,15 +45,15 @@ fn said_of(segment: &Segment) -> Said
             shift: 0,
         },
         Segment::Coc { comp, shape } => Said {
-            slot: 5 + 3 * usize::from(*comp),
+            slot: 261 + 3 * usize::from(*comp),
             levels: shape.levels,
             wavelet: shape.wavelet,
             transform: 0,
             shift: 0,
         },
         Segment::Qcd(_) => said_at(2, 0),
-        Segment::Qcc { comp, .. } => said_at(6 + 3 * usize::from(*comp), 0),
-        Segment::Rgn { comp, shift } => said_at(7 + 3 * usize::from(*comp), *shift),
+        Segment::Qcc { comp, .. } => said_at(262 + 3 * usize::from(*comp), 0),
+        Segment::Rgn { comp, shift } => said_at(263 + 3 * usize::from(*comp), *shift),
         _ => said_at(0, 0),
     }
 }

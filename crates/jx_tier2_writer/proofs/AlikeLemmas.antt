@@ -21,13 +21,13 @@ module _ (own other : List Segment) (alike : AreAlike own other) where
   chosen_alike slot default main a b = rw (alike slot a, alike default b) refl
 
   pub shape_alike : (main : List Segment) (comp : ℕ) → shape_of own main comp ≡ shape_of other main comp
-  shape_alike main comp = ap shape_in (chosen_alike (5 + 3 * comp) 1 main (omega arith) (omega arith))
+  shape_alike main comp = ap shape_in (chosen_alike (261 + 3 * comp) 1 main (omega arith) (omega arith))
 
   pub quant_alike : (main : List Segment) (comp : ℕ) → quant_of own main comp ≡ quant_of other main comp
-  quant_alike main comp = ap quant_in (chosen_alike (6 + 3 * comp) 2 main (omega arith) (omega arith))
+  quant_alike main comp = ap quant_in (chosen_alike (262 + 3 * comp) 2 main (omega arith) (omega arith))
 
   pub shift_alike : (main : List Segment) (comp : ℕ) → shift_of own main comp ≡ shift_of other main comp
-  shift_alike main comp = ap (λ (x : Option Segment). shift_in (option_or x (in_slot (7 + 3 * comp) main))) (alike (7 + 3 * comp) (omega arith))
+  shift_alike main comp = ap (λ (x : Option Segment). shift_in (option_or x (in_slot (263 + 3 * comp) main))) (alike (263 + 3 * comp) (omega arith))
 
   pub cod_alike : (main : List Segment) → cod_of own main ≡ cod_of other main
   cod_alike main = ap (λ (x : Option Segment). cod_in (option_or x (in_slot 1 main))) (alike 1 (omega arith))
@@ -68,13 +68,13 @@ module _ (main later : List Segment) (alike : AreAlike main later) where
   chosen_main slot default own a b = rw (alike slot a, alike default b) refl
 
   shape_main : (own : List Segment) (comp : ℕ) → shape_of own main comp ≡ shape_of own later comp
-  shape_main own comp = ap shape_in (chosen_main (5 + 3 * comp) 1 own (omega arith) (omega arith))
+  shape_main own comp = ap shape_in (chosen_main (261 + 3 * comp) 1 own (omega arith) (omega arith))
 
   quant_main : (own : List Segment) (comp : ℕ) → quant_of own main comp ≡ quant_of own later comp
-  quant_main own comp = ap quant_in (chosen_main (6 + 3 * comp) 2 own (omega arith) (omega arith))
+  quant_main own comp = ap quant_in (chosen_main (262 + 3 * comp) 2 own (omega arith) (omega arith))
 
   shift_main : (own : List Segment) (comp : ℕ) → shift_of own main comp ≡ shift_of own later comp
-  shift_main own comp = ap (λ (x : Option Segment). shift_in (option_or (in_slot (7 + 3 * comp) own) x)) (alike (7 + 3 * comp) (omega arith))
+  shift_main own comp = ap (λ (x : Option Segment). shift_in (option_or (in_slot (263 + 3 * comp) own) x)) (alike (263 + 3 * comp) (omega arith))
 
   pub cod_main : (own : List Segment) → cod_of own main ≡ cod_of own later
   cod_main own = ap (λ (x : Option Segment). cod_in (option_or (in_slot 1 own) x)) (alike 1 (omega arith))

@@ -1,5 +1,5 @@
 -- Segments of a header with PLT segments after them.
-use Rattle.std.proofs.Common.{◌≡◌, ◌<◌, ◌≤◌, ◌+◌, ◌==◌, ℕ, suc, true, false, arith, List, [], ◌∷◌, ◌++◌, length, refl, sym, ap, subst, inl, inr, append-nil, append_assoc}
+use Rattle.std.proofs.Common.{◌≡◌, ◌<◌, ◌≤◌, ◌+◌, ◌==◌, ◌&&◌, ℕ, suc, Bool, true, false, arith, List, [], ◌∷◌, ◌++◌, length, refl, sym, ap, subst, inl, inr, append-nil, append_assoc}
 use Rattle.std.specs.List.{AllByRecursion}
 use Rattle.std.proofs.lemmas.Bool.{cases_Bool}
 use Rattle.std.proofs.lemmas.Bool.Decides.{nat_tests}
@@ -8,7 +8,7 @@ use Rattle.jx_marker.specs.declared.Segment.{Segment}
 use Rattle.jx_marker.specs.declared.Segment.TheVariants as segment
 use Rattle.jx_marker.specs.Ranges.{AreBytes, InRange}
 use Rattle.jx_codestream.specs.declared.headers.HeaderKind.{HeaderKind}
-use Rattle.jx_codestream.specs.Headers.{slot_of, stands_in}
+use Rattle.jx_codestream.specs.Headers.{is_beside_ppm, is_packed_twice, slot_of, stands_in}
 use Rattle.jx_codestream.specs.Tiles.{in_slot, entries_joined}
 use Rattle.jx_codestream.specs.Spells.{AreSegments}
 use Rattle.jx_tier2_writer.specs.Lengths.{numbered}
@@ -25,7 +25,14 @@ pub record IsHeld (bytes : List ℕ) : Type 0 where
   pub short : length bytes ≤ 65532
   pub each : AreBytes bytes
 
--- PLT stands in the headers of tile-parts
+-- PLT stands in the headers of tile-parts, beside PPM too
+not_ppt : (kind : HeaderKind) (bytes : List ℕ) → is_packed_twice kind (segment.Plt bytes) ≡ false
+not_ppt kind bytes = neither (is_beside_ppm kind)
+  where
+    neither : (beside : Bool) → (beside && false) ≡ false
+    neither true = refl
+    neither false = refl
+
 pub lengths_stand : (kind : HeaderKind) (comps number : ℕ) (before : List Segment) (held : List (List ℕ)) → ((bytes : List ℕ) → stands_in kind (segment.Plt bytes) ≡ true)
     → number + length held ≤ 256 → AllByRecursion IsHeld held → AreSegments kind comps before (numbered number held)
 lengths_stand kind comps number before [] stands few fit = tt
@@ -33,6 +40,7 @@ lengths_stand kind comps number before (bytes ∷ held) stands few fit = (
   record {
     range = record { some = omega arith; count = omega (arith, fit.0.short); each = All-cons (λ (byte : ℕ). byte < 256) number bytes (omega arith) fit.0.each };
     stands = stands (number ∷ bytes);
+    once_packed = not_ppt kind (number ∷ bytes);
     inside = refl;
     once = refl;
   },

@@ -1,5 +1,5 @@
 -- TLM segments behind a main header: nothing is found in them, so what the header says stays; and they are such as may stand there.
-use Rattle.std.proofs.Common.{◌≡◌, ◌∙◌, ◌<◌, ◌≤◌, ◌+◌, ◌-◌, ◌*◌, ◌==◌, ℕ, min, zero, suc, Bool, true, false, arith, List, [], ◌∷◌, ◌++◌, length, map, take, drop, refl, sym, ap, inl, inr, cond, length-append, append-nil}
+use Rattle.std.proofs.Common.{◌≡◌, ◌∙◌, ◌<◌, ◌≤◌, ◌+◌, ◌-◌, ◌*◌, ◌==◌, ◌||◌, ℕ, min, zero, suc, Bool, true, false, arith, List, [], ◌∷◌, ◌++◌, length, map, take, drop, refl, sym, ap, inl, inr, cond, length-append, append-nil}
 use Rattle.std.specs.List.{AllByRecursion, filter, flat_map, range_with_len}
 use Rattle.std.proofs.Math.Seq.{take-length}
 use Rattle.std.proofs.lemmas.Grind.{flat_map-append}
@@ -16,7 +16,7 @@ use Rattle.jx_marker.specs.Ranges.{AreBytes, BytesInRange}
 use Rattle.jx_marker.specs.Segments.{spelling}
 use Rattle.jx_codestream.specs.declared.headers.HeaderKind.TheVariants.{Main}
 use Rattle.jx_codestream.specs.First.{lacks_default}
-use Rattle.jx_codestream.specs.Headers.{has_slot, slot_of}
+use Rattle.jx_codestream.specs.Headers.{has_packed, has_slot, is_packed, slot_of}
 use Rattle.jx_codestream.specs.Spells.{AreSegments, TilePart, all_bytes}
 use Rattle.jx_codestream.specs.Tiles.{entries_joined, entries_of, in_slot}
 use Rattle.jx_options.specs.declared.Marks.{Marks}
@@ -56,6 +56,11 @@ tlm_entries [] [] = refl
 tlm_entries [] (bytes ∷ held) = tlm_entries [] held
 tlm_entries (s ∷ main) held = ap (λ z. entries_of s ++ z) (tlm_entries main held)
 
+pub tlm_packed : (main : List Segment) (held : List (List ℕ)) → has_packed (main ++ tlms held) ≡ has_packed main
+tlm_packed [] [] = refl
+tlm_packed [] (bytes ∷ held) = tlm_packed [] held
+tlm_packed (s ∷ main) held = ap (λ (rest : Bool). is_packed s || rest) (tlm_packed main held)
+
 pub tlm_informs : (main : List Segment) (held : List (List ℕ)) → filter is_informational (main ++ tlms held) ≡ filter is_informational main
 tlm_informs [] [] = refl
 tlm_informs [] (bytes ∷ held) = tlm_informs [] held
@@ -68,7 +73,7 @@ tlm_informs (s ∷ main) held = elim (cases_Bool (is_informational s)) [
 pub tlms_stand : (comps : ℕ) (before : List Segment) (held : List (List ℕ)) → AllByRecursion (BytesInRange 2) held → AreSegments Main comps before (tlms held)
 tlms_stand comps before [] fit = tt
 tlms_stand comps before (bytes ∷ held) fit =
-    (record { range = fit.0; stands = refl; inside = refl; once = refl }, tlms_stand comps (before ++ segment.Tlm bytes ∷ []) held fit.1)
+    (record { range = fit.0; stands = refl; once_packed = refl; inside = refl; once = refl }, tlms_stand comps (before ++ segment.Tlm bytes ∷ []) held fit.1)
 
 -- ---- the index as such segments
 abbrev pub numbers_by : Bool → List PartLength → List ℕ

@@ -13,6 +13,7 @@ use Rattle.jx_codestream.specs.declared.headers.HeaderKind.TheVariants.{Main}
 use Rattle.jx_codestream.specs.declared.Stream.{Stream}
 use Rattle.jx_codestream.specs.declared.Tile.{Tile}
 use Rattle.jx_codestream.specs.First.{lacks_default}
+use Rattle.jx_codestream.specs.Headers.{has_packed}
 use Rattle.jx_codestream.specs.Params.{cod_or, header_of, limit_4_of}
 use Rattle.jx_codestream.specs.Shapes.{geometry, layers_of, tile_at}
 use Rattle.jx_codestream.specs.Spells.{AreSegments, TilePart}
@@ -26,7 +27,7 @@ use Rattle.jx_tier2_writer.specs.Ready.{AreReady, IsTileReady, cod_at}
 use Rattle.jx_tier2_writer.specs.TileParts.{parts_with}
 use Rattle.jx_tier2_writer.proofs.AlikeLemmas.{AreAlike, cod_main, tile_planes_main, too_few_main}
 use Rattle.jx_tier2_writer.proofs.HeaderLemmas.{segments_on}
-use Rattle.jx_tier2_writer.proofs.IndexLemmas.{index_held, index_is, index_stands, tlm_defaults, tlm_entries, tlm_slots, tlms}
+use Rattle.jx_tier2_writer.proofs.IndexLemmas.{index_held, index_is, index_stands, tlm_defaults, tlm_entries, tlm_packed, tlm_slots, tlms}
 use Rattle.jx_tier2_writer.proofs.ReadLemmas.{IsCutInto}
 use Rattle.jx_tier2_writer.proofs.SameLemmas.{geometry_same, layers_same, packets_same, totals_same}
 
@@ -91,6 +92,7 @@ module _ (m : Marks) (s : Stream) (parts : List TilePart) where
         header = is.header;
         entries = is.entries;
         lengths = is.lengths;
+        in_place = is.in_place;
         progressions = is.progressions ∙ sym (ap (λ (z : Option Segment). or_list (entry_in (in_slot 1 (header_of s t))) (entry_in z)) (main_alike 1 (omega arith)));
         sop = ap (λ (c : Cod). c.sop) cod ∙ is.sop;
         eph = ap (λ (c : Cod). c.eph) cod ∙ is.eph;
@@ -110,6 +112,7 @@ module _ (m : Marks) (s : Stream) (parts : List TilePart) where
         siz = is.siz;
         main = subst P (sym main_is) (segments_on Main (length s.siz.comps) [] s.main (tlms held) is.main (index_stands m (length s.siz.comps) s.main parts few));
         entries = ap (λ (z : List Segment). entries_joined z) main_is ∙ tlm_entries s.main held ∙ is.entries;
+        in_place = ap has_packed main_is ∙ tlm_packed s.main held ∙ is.in_place;
         defaults = ap (λ (z : List Segment). lacks_default z) main_is ∙ tlm_defaults s.main held ∙ is.defaults;
         few_tiles = is.few_tiles;
         count = is.count;

@@ -51,6 +51,7 @@ use Rattle.jx_tier2_writer.specs.Strict.{IsStrict}
 use Rattle.jx_tier2_writer.specs.TileParts.{IsOutput}
 use Rattle.jx_tier2_writer.proofs.OutputLemmas.{output_formed, output_gathered, output_headers, output_read, strict_with}
 use Rattle.jx_tier2_writer.proofs.IndexLemmas.{index_held, index_is, tlm_informs}
+use Rattle.jx_tier2_writer.proofs.InPlaceLemmas.{unpacked}
 use Rattle.jx_plan.proofs.ReadBackLemmas.{comps_are as comps_written}
 use Rattle.jx_plan.proofs.PlanLemmas.{style_few}
 
@@ -155,6 +156,7 @@ module _ (laws : HeaderLaws) (w : Wanted) (layers : ℕ) (s : Stream) (some : 1 
         header = subst P (sym (comps_written a s)) (laws.header a s t stand may_be above lt);
         entries = laws.entries a s t stand lt;
         lengths = laws.lengths a s t stand lt;
+        in_place = unpacked (header_of it t) (laws.left_header a s t stand lt);
         progressions = laws.order a s t stand lt;
         sop = ap (λ (c : Cod). c.sop) (laws.cods a s t stand);
         eph = ap (λ (c : Cod). c.eph) (laws.cods a s t stand);
@@ -168,6 +170,7 @@ module _ (laws : HeaderLaws) (w : Wanted) (layers : ℕ) (s : Stream) (some : 1 
         siz = written.siz;
         main = written.main;
         entries = laws.main a s stand;
+        in_place = unpacked it.main (laws.left_main a s stand);
         defaults = written.defaults;
         few_tiles = written.few;
         count = written.count;

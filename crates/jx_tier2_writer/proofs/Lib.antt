@@ -1,4 +1,5 @@
 mod HeaderLemmas
+mod InPlaceLemmas
 mod AlikeLemmas
 mod HeldLemmas
 mod FewLemmas

@@ -1,15 +1,19 @@
 -- The tile-parts that are made of a tile's packets: their headers, their lengths, and their data in the file.
-use Rattle.std.proofs.Common.{◌≡◌, ◌∙◌, ◌<◌, ◌≤◌, ◌+◌, ◌^◌, ◌==◌, ℕ, zero, suc, false, arith, List, [], ◌∷◌, ◌++◌, length, map, take, drop, refl, sym, ap, subst, append_assoc, length-append, take_at, cond}
+use Rattle.std.proofs.Common.{◌≡◌, ◌∙◌, ◌<◌, ◌≤◌, ◌+◌, ◌^◌, ◌==◌, ℕ, zero, suc, false, arith, List, [], ◌∷◌, ◌++◌, length, map, take, drop, refl, sym, ap, subst, append_assoc, length-append, take_at, cond, Option, None}
 use Rattle.std.specs.List.{filter, flat_map}
 use Rattle.std.proofs.lemmas.List.Elements.{filter-append}
+use Rattle.std.proofs.lemmas.List.Folds.{list_any-append}
 use Rattle.jx_marker.specs.declared.Segment.{Segment}
 use Rattle.jx_marker.specs.declared.Segment.TheVariants as segment
 use Rattle.jx_marker.specs.Segments.{spelling}
 use Rattle.jx_progression.specs.declared.names.PacketName.{PacketName}
+use Rattle.jx_codestream.specs.declared.Body.{Body}
 use Rattle.jx_codestream.specs.declared.headers.HeaderKind.{HeaderKind}
 use Rattle.jx_codestream.specs.declared.headers.HeaderKind.TheVariants.{First, Later}
 use Rattle.std.proofs.lemmas.Bool.Decides.{nat_tests}
 use Rattle.jx_codestream.specs.declared.parts.PlacedPart.{PlacedPart}
+use Rattle.jx_codestream.specs.Headers.{has_packed, is_packed}
+use Rattle.jx_codestream.specs.PackedHeaders.{both_heads, heads_by, heads_in, heads_of}
 use Rattle.jx_codestream.specs.Tiles.{headers_of, is_com, entries_joined}
 use Rattle.jx_codestream.specs.Parts.{kind_of}
 use Rattle.jx_codestream.specs.Spells.{TilePart, AreSegments, all_bytes, head_bytes, part_bytes, placed}
@@ -21,6 +25,7 @@ use Rattle.jx_tier2_writer.specs.Ready.{AreShort}
 use Rattle.jx_options.specs.declared.Marks.{Marks}
 use Rattle.jx_tier2_writer.specs.TileParts.{packet_length, written_part_header, parts_with, tile_part}
 use Rattle.jx_tier2_writer.proofs.HeaderLemmas.{lengths_none, lengths_stand, segments_on}
+use Rattle.jx_tier2_writer.proofs.InPlaceLemmas.{lengths_unpacked, none_packed}
 use Rattle.jx_plan.proofs.ReadBackLemmas.{none_both as joined_on}
 use Rattle.jx_tier2_writer.proofs.HeldLemmas.{held_by, held_few, held_fit, packets_long, segments_are}
 use Rattle.jx_tier2_writer.proofs.FewLemmas.{AreFew}
@@ -37,7 +42,7 @@ header_is m own (suc part) lengths = segments_are m.plt lengths
 
 -- ---- headers
 header_fits : (m : Marks) (comps t part parts : ℕ) (own : List Segment) (lengths body : List ℕ) → AreSegments First comps [] own → length lengths ≤ 2 ^ 22 → length_total lengths < 2 ^ 32
-    → let p = tile_part comps t part parts (written_part_header m own part lengths) body in AreSegments (kind_of p.sot) comps [] p.header
+    → let p = tile_part comps t part parts (written_part_header m own part lengths) body in AreSegments (kind_of false p.sot) comps [] p.header
 header_fits m comps t zero parts own lengths body fit count short =
     let P : List Segment → Type 0 = λ z. AreSegments First comps [] z in
     subst P (sym (header_is m own zero lengths)) (segments_on First comps [] own (numbered 0 (held_by m.plt lengths)) fit
@@ -128,6 +133,29 @@ module _ (m : Marks) (comps t : ℕ) (own : List Segment) (ps : Packets) (parts 
       ∙ ap (λ (z : List Segment). filter is_com z ++ filter is_com later) (later_header part lengths some)
       ∙ ap (λ (z : List Segment). z ++ filter is_com later) (no_notes 0 (held_by m.plt lengths))
       ∙ made_notes (part + 1) (number + length names) (at + length (part_bytes comps p)) groups (omega arith)
+
+  -- ---- no PPT
+  header_in_place : (part : ℕ) (lengths : List ℕ) → has_packed own ≡ false → has_packed (written_part_header m own part lengths) ≡ false
+  header_in_place part lengths none =
+      ap has_packed (header_is m own part lengths) ∙ list_any-append is_packed (own_at part own) (numbered 0 (held_by m.plt lengths))
+      ∙ (let front : has_packed (own_at part own) ≡ false = at part in
+      let behind : has_packed (numbered 0 (held_by m.plt lengths)) ≡ false = lengths_unpacked 0 (held_by m.plt lengths) in
+      rw (front, behind) refl)
+    where
+      at : (k : ℕ) → has_packed (own_at k own) ≡ false
+      at zero = none
+      at (suc k) = refl
+
+  pub made_in_place : (part number at : ℕ) (groups : List (List PacketName)) → has_packed own ≡ false → heads_of (placed comps at (parts_with m comps t own ps part parts number groups)) ≡ None
+  made_in_place part number at [] none = refl
+  made_in_place part number at (names ∷ groups) none =
+      let lengths : List ℕ = map (packet_length ps) names in
+      let header : List Segment = written_part_header m own part lengths in
+      let p : TilePart = tile_part comps t part parts header (bytes_from ps number names) in
+      let later : Option (List Body) = heads_of (placed comps (at + length (part_bytes comps p)) (parts_with m comps t own ps (part + 1) parts (number + length names) groups)) in
+      let first : heads_in comps (at + length (spelling comps (segment.Sot p.sot))) header ≡ None =
+      ap heads_by (none_packed comps (at + length (spelling comps (segment.Sot p.sot))) header (header_in_place part lengths none)) in
+      ap (λ (x : Option (List Body)). both_heads x later) first ∙ made_in_place (part + 1) (number + length names) (at + length (part_bytes comps p)) groups none
 
   -- ---- data
   pub made_filled : (b : List ℕ) (part number at : ℕ) (groups : List (List PacketName)) (more : List ℕ)

@@ -49,7 +49,7 @@ use Rattle.jx_tile_parts.specs.Groups.{HasFewParts, IsPartCount, groups_of}
 use Rattle.jx_tile_parts.proofs.GroupLemmas.{groups_stay, some_group}
 use Rattle.jx_tier2_writer.specs.TileParts.{AreTilePartsOf, IsOutput, packets_of, tile_parts}
 use Rattle.jx_tier2_writer.proofs.ReadyLemmas.{ready_list, ready_whole}
-use Rattle.jx_tier2_writer.proofs.ReadLemmas.{IsCutInto, alike, all_of, filled, header_with, is_read, no_notes, parts_there, progressions_same}
+use Rattle.jx_tier2_writer.proofs.ReadLemmas.{IsCutInto, alike, all_of, filled, header_with, in_place, is_read, no_notes, parts_there, progressions_same}
 use Rattle.jx_tier2_writer.proofs.FindLemmas.{IsTold, all_told, index_told, small_entries, stands_at}
 use Rattle.jx_codestream.proofs.RangeLemmas.{few_tiles}
 use Rattle.jx_tier2_writer.proofs.SameLemmas.{blocks_same, geometry_same, layers_same, packets_same, params_same, planes_same, step_same, totals_same}
@@ -106,10 +106,6 @@ module _ (m : Marks) (s : Stream) (blocks : List Block) (b : List ℕ) (parts : 
       cover_same (geometry s t) (geometry now t) (layers_of s t) (layers_of now t) (tile_at s t).progressions (tile_at now t).progressions
       (geometry_is t) (layers_are t) (entries_are t lt) (ready_whole m s ready t lt)
 
-  -- what is written has no PPM and no PPT, so each header stands before its packet (not proved yet)
-  in_place : (t : ℕ) → t < tile_number s.siz → (tile_at now t).heads ≡ None
-  in_place t lt = ?
-
   packets_are : (t : ℕ) → packets_of m now t blocks ≡ packets_of m s t blocks
   packets_are t = packets_same s s.main now.tiles same_main same blocks t m
 
@@ -119,7 +115,7 @@ module _ (m : Marks) (s : Stream) (blocks : List Block) (b : List ℕ) (parts : 
   pub blocks_kept : AreBlocksOf s blocks → All IsSound blocks → IsGathered b now blocks
   blocks_kept are sound =
       planned_gathered b now blocks (λ t. packets_of m s t blocks) groups read_now totals_kept
-      (blocks_same s s.main now.tiles same_main same blocks are) sound whole_is list_is in_place (filled m s blocks b parts groups ready cut short whole) (λ t lt. planned_now t)
+      (blocks_same s s.main now.tiles same_main same blocks are) sound whole_is list_is (in_place m s blocks b parts groups ready cut short whole) (filled m s blocks b parts groups ready cut short whole) (λ t lt. planned_now t)
 
   cod_same : (t : ℕ) → cod_at now t ≡ cod_at s t
   cod_same t = ap cod_or (cod_alike (header_of now t) (header_of s t) (same t) s.main)
@@ -137,6 +133,7 @@ module _ (m : Marks) (s : Stream) (blocks : List Block) (b : List ℕ) (parts : 
         packets = packets_of m s t blocks;
         groups = groups t;
         laid = record {
+          in_place = in_place m s blocks b parts groups ready cut short whole t lt;
           order = list_is t lt;
           written = (planned_written b now t blocks (packets_of m s t blocks) read_now totals_kept lt (blocks_same s s.main now.tiles same_main same blocks are) sound (planned_now t)).0;
           filled = filled m s blocks b parts groups ready cut short whole t lt;

@@ -13,6 +13,7 @@ use Rattle.jx_marker.specs.declared.Segment.TheVariants as segment
 use Rattle.jx_marker.specs.Segments.{spelling}
 use Rattle.jx_progression.specs.declared.names.PacketName.{PacketName}
 use Rattle.jx_codestream.specs.declared.Body.{Body}
+use Rattle.jx_codestream.specs.declared.packed.PackedSegment.{PackedSegment}
 use Rattle.jx_codestream.specs.declared.parts.PlacedPart.{PlacedPart}
 use Rattle.jx_codestream.specs.declared.Stream.{Stream}
 use Rattle.jx_codestream.specs.declared.Tile.{Tile}
@@ -21,8 +22,9 @@ use Rattle.jx_codestream.specs.Params.{header_in, header_of, limit_4_of, tile_ha
 use Rattle.jx_codestream.specs.Parts.{parts_of}
 use Rattle.jx_codestream.specs.Read.{IsRead}
 use Rattle.jx_codestream.specs.Shapes.{no_tile, tile_at}
-use Rattle.jx_codestream.specs.Spells.{TilePart, all_bytes, file_bytes, first_sot, part_bytes, placed}
-use Rattle.jx_codestream.specs.Tiles.{entry_in, first_header, headers_of, in_slot, is_com, or_list, progressions_of, tile_from, tile_of}
+use Rattle.jx_codestream.specs.PackedHeaders.{shares_fault, with_shares}
+use Rattle.jx_codestream.specs.Spells.{AreTileParts, TilePart, all_bytes, file_bytes, first_sot, main_packed, main_start, part_bytes, placed}
+use Rattle.jx_codestream.specs.Tiles.{entry_in, first_header, headers_of, in_slot, is_com, or_list, progressions_of, tile_from, tile_of, tiles_of}
 use Rattle.jx_codestream.specs.Tiles.{entries_joined}
 use Rattle.jx_codestream.proofs.OneLemmas.{drop_on}
 use Rattle.jx_codestream.proofs.ShapeLemmas.{siz_is}
@@ -37,7 +39,8 @@ use Rattle.jx_tier2_writer.proofs.HeldLemmas.{held_by}
 use Rattle.jx_tier2_writer.proofs.AlikeLemmas.{AreAlike, all_planes_alike, few_alike}
 use Rattle.jx_tier2_writer.proofs.FewLemmas.{few_packets, groups_few}
 use Rattle.jx_tier2_writer.proofs.HeaderLemmas.{same_slots}
-use Rattle.jx_tier2_writer.proofs.MadeLemmas.{header_is, made_entries, made_filled, made_long, made_notes, made_of}
+use Rattle.jx_tier2_writer.proofs.InPlaceLemmas.{none_packed}
+use Rattle.jx_tier2_writer.proofs.MadeLemmas.{header_is, made_entries, made_filled, made_in_place, made_long, made_notes, made_of}
 use Rattle.jx_tier2_writer.proofs.PlaceLemmas.{AllOf, exact_all, none_lacks, parts_here, place_of, some_part, tile_bytes}
 use Rattle.jx_tier2_writer.proofs.TurnLemmas.{AreOf, exact_parts}
 use Rattle.jx_plan.proofs.PlanLemmas.{some_tile}
@@ -212,6 +215,12 @@ module _ (m : Marks) (s : Stream) (blocks : List Block) (b : List ℕ) (parts : 
   pub no_notes : (t : ℕ) → t < tiles → (tile_at it t).notes ≡ []
   no_notes t lt = ap (λ (x : Tile). x.notes) (tile_is t lt) ∙ notes_made m comps t (header_of s t) (packets_of m s t blocks) (length (groups t)) (place_of comps parts start t) (groups t)
 
+  -- each packet header stands before its packet
+  pub in_place : (t : ℕ) → t < tiles → (tile_at it t).heads ≡ None
+  in_place t lt =
+      ap (λ (x : Tile). x.heads) (tile_is t lt)
+      ∙ made_in_place m comps t (header_of s t) (packets_of m s t blocks) (length (groups t)) 0 0 (place_of comps parts start t) (groups t) (ready.tiles t lt).in_place
+
   -- ---- the file
   some_in : (t : ℕ) → t < tiles → 0 < length (parts t)
   some_in t lt = omega (arith, parts_count t lt, (cut t lt).some)
@@ -221,6 +230,9 @@ module _ (m : Marks) (s : Stream) (blocks : List Block) (b : List ℕ) (parts : 
 
   some_tiles : 0 < tiles
   some_tiles = some_tile (canvas_of s.siz) (siz_is s.siz ready.siz.fits).canvas
+
+  none_apart : main_packed s.siz s.main ≡ []
+  none_apart = none_packed comps (main_start s.siz) s.main ready.in_place
 
   pub is_read : IsRead b it
   is_read = record {
@@ -232,9 +244,11 @@ module _ (m : Marks) (s : Stream) (blocks : List Block) (b : List ℕ) (parts : 
       main = ready.main;
       defaults = ready.defaults;
       some = some_part comps parts tiles some_tiles some_in;
-      tile_parts = exact_parts comps tiles [] [] start all_parts (exact_all comps parts tiles start tiles (omega arith) (omega (arith, few_tiles s.siz ready.few_tiles)) all_of few_in);
+      tile_parts = subst (λ (packed : Bool). AreTileParts packed comps tiles [] [] start all_parts) (sym ready.in_place)
+          (exact_parts comps tiles [] [] start all_parts (exact_all comps parts tiles start tiles (omega arith) (omega (arith, few_tiles s.siz ready.few_tiles)) all_of few_in));
       each = none_lacks comps parts start tiles all_of some_in;
-      tiles = refl;
+      packed = ap (λ (xs : List PackedSegment). shares_fault b xs all_placed) none_apart;
+      tiles = ap (λ (xs : List PackedSegment). tiles_of s.main (with_shares b xs all_placed) tiles) (sym none_apart);
       entries = enough;
     };
     tiles = ready.few_tiles;

@@ -55,13 +55,13 @@ module _ (m : Marks) (s : Stream) (ready : AreReady m s) where
       let within : t < length s.tiles = omega (arith, ready.count) in
       ap header_in (slice_get-get_or s.tiles t no_tile within)
 
-  shaped_at : (t c : ℕ) → t < tile_number s.siz → IsShaped (chosen (5 + 3 * c) 1 (header_of s t) s.main)
+  shaped_at : (t c : ℕ) → t < tile_number s.siz → IsShaped (chosen (261 + 3 * c) 1 (header_of s t) s.main)
   shaped_at t c inside =
-      shape_there comps c _ (chosen_fits comps (5 + 3 * c) 1 (header_of s t) s.main (own_fit t inside) main_fit) (chosen_there (5 + 3 * c) 1 (header_of s t) s.main both_there.0)
+      shape_there comps c _ (chosen_fits comps (261 + 3 * c) 1 (header_of s t) s.main (own_fit t inside) main_fit) (chosen_there (261 + 3 * c) 1 (header_of s t) s.main both_there.0)
 
-  quantized_at : (t c : ℕ) → t < tile_number s.siz → IsQuantized (chosen (6 + 3 * c) 2 (header_of s t) s.main)
+  quantized_at : (t c : ℕ) → t < tile_number s.siz → IsQuantized (chosen (262 + 3 * c) 2 (header_of s t) s.main)
   quantized_at t c inside =
-      quant_there comps c _ (chosen_fits comps (6 + 3 * c) 2 (header_of s t) s.main (own_fit t inside) main_fit) (chosen_there (6 + 3 * c) 2 (header_of s t) s.main both_there.1)
+      quant_there comps c _ (chosen_fits comps (262 + 3 * c) 2 (header_of s t) s.main (own_fit t inside) main_fit) (chosen_there (262 + 3 * c) 2 (header_of s t) s.main both_there.1)
 
   coded_at : (t : ℕ) → t < tile_number s.siz → IsCoded (option_or (in_slot 1 (header_of s t)) (in_slot 1 s.main))
   coded_at t inside =

@@ -9,12 +9,12 @@ use Rattle.jx_codestream.specs.declared.parts.PlacedPart.{PlacedPart}
 use Rattle.jx_codestream.specs.Parts.{kind_of, parts_of, told_other, is_out_of_turn, comes_out_of_turn}
 use Rattle.jx_codestream.specs.Spells.{TilePart, part_bytes, part_of, placed, AreSegments, IsTilePart, AreTileParts}
 
--- a tile-part of a tile that has so many, with its number among them
+-- a tile-part of a tile that has so many, with its number among them, behind a main header without PPM
 pub record IsOf (comps t count part : ℕ) (p : TilePart) : Type 0 where
   pub tile : p.sot.tile ≡ t
   pub part_is : p.sot.part ≡ part
   pub parts : p.sot.parts ≡ count
-  pub header : AreSegments (kind_of p.sot) comps [] p.header
+  pub header : AreSegments (kind_of false p.sot) comps [] p.header
   pub long : p.sot.psot ≡ length (part_bytes comps p)
   pub short : p.sot.psot < 2 ^ 32
 
@@ -23,13 +23,13 @@ abbrev pub AreOf : ℕ → ℕ → ℕ → ℕ → List TilePart → Type 0
 AreOf comps t count part [] = Unit {0}
 AreOf comps t count part (p ∷ ps) = IsOf comps t count part p × AreOf comps t count (part + 1) ps
 
--- tile-parts from a place on, after others, each with its length in Psot
+-- tile-parts from a place on, after others and behind a main header without PPM, each with its length in Psot
 abbrev pub AreExact : ℕ → ℕ → List PlacedPart → ℕ → List TilePart → Type 0
 AreExact comps tiles before at [] = Unit {0}
-AreExact comps tiles before at (p ∷ ps) = IsTilePart comps tiles before p × (p.sot.psot ≡ length (part_bytes comps p))
+AreExact comps tiles before at (p ∷ ps) = IsTilePart false comps tiles before p × (p.sot.psot ≡ length (part_bytes comps p))
     × AreExact comps tiles (before ++ part_of comps at p ∷ []) (at + length (part_bytes comps p)) ps
 
-pub exact_parts : (comps tiles : ℕ) (rest : List ℕ) (before : List PlacedPart) (at : ℕ) (ps : List TilePart) → AreExact comps tiles before at ps → AreTileParts comps tiles rest before at ps
+pub exact_parts : (comps tiles : ℕ) (rest : List ℕ) (before : List PlacedPart) (at : ℕ) (ps : List TilePart) → AreExact comps tiles before at ps → AreTileParts false comps tiles rest before at ps
 exact_parts comps tiles rest before at [] h = tt
 exact_parts comps tiles rest before at (p ∷ ps) h =
     (h.0, inl h.1, exact_parts comps tiles rest (before ++ part_of comps at p ∷ []) (at + length (part_bytes comps p)) ps h.2)

@@ -29,8 +29,8 @@ pub record IsKeptIn (w : Wanted) (rule : Rule) (before after : Stream) (blocks :
   pub gathered : IsGathered out after (blocks_written w rule before blocks)
   pub formed : IsWellFormed out
   pub strict : IsStrict w.marks out after
-  -- no POC, TLM, PLM or skipped marker, in the main header before its index and in each tile's; the main header's CRG and COM, in their
-  -- order
+  -- no POC, TLM, PLM, PPM, PPT or skipped marker, in the main header before its index and in each tile's; the main
+  -- header's CRG and COM, in their order
   pub left_main : list_any is_left_out strict.front ≡ false
   pub left_header : (t : ℕ) → t < tile_number before.siz → list_any is_left_out (header_of after t) ≡ false
   pub informs : filter is_informational after.main ≡ filter is_informational before.main

@@ -4,7 +4,7 @@ use Rattle.std.specs.Prelude.{◌≡◌, ◌<◌, ◌^◌, ℕ, false, List, [],
 use Rattle.jx_base.specs.Joined.{joined}
 use Rattle.jx_marker.specs.declared.Cod.{Cod}
 use Rattle.jx_marker.specs.Ranges.{SizInRange}
-use Rattle.jx_codestream.specs.Headers.{cod_slot}
+use Rattle.jx_codestream.specs.Headers.{cod_slot, has_packed}
 use Rattle.jx_codestream.specs.declared.headers.HeaderKind.TheVariants.{Main, First}
 use Rattle.jx_codestream.specs.declared.Stream.{Stream}
 use Rattle.jx_codestream.specs.First.{tile_number, tiles_fault, lacks_default}
@@ -29,12 +29,13 @@ cod_at s t = cod_or (cod_of (header_of s t) s.main)
 abbrev pub HasList : Stream → ℕ → Type 0
 HasList s t = (list : List PacketName) × IsListOf s t list
 
--- one tile's header: no POC and no PLT, and the packets' order is that of its COD
+-- one tile's header: no POC, PLT and PPT, and the packets' order is that of its COD
 pub record IsTileReady (m : Marks) (s : Stream) (t : ℕ) : Type 0 where
   -- rules 1 to 14, 18 and 19
   pub header : AreSegments First (length s.siz.comps) [] (header_of s t)
   pub entries : entries_joined (header_of s t) ≡ []
   pub lengths : has_lengths (header_of s t) ≡ false
+  pub in_place : has_packed (header_of s t) ≡ false
   pub progressions : (tile_at s t).progressions ≡ or_list (entry_in (in_slot cod_slot (header_of s t))) (entry_in (in_slot cod_slot s.main))
   -- A.8: Scod says what stands in the tile's data
   pub sop : (cod_at s t).sop ≡ m.sop
@@ -50,6 +51,8 @@ pub record AreReady (m : Marks) (s : Stream) : Type 0 where
   pub main : AreSegments Main (length s.siz.comps) [] s.main
   -- no POC
   pub entries : entries_joined s.main ≡ []
+  -- no PPM
+  pub in_place : has_packed s.main ≡ false
   -- rule 17
   pub defaults : lacks_default s.main ≡ false
   -- limit 3

@@ -49,7 +49,7 @@ use jx_plan::laws::{
 use jx_plan::layer_laws::{breaks_are_told, jobs_have_these_ends};
 
 /// A written file spells the stream of the headers that it was written from, with its tile-parts' own headers, places and data: no
-/// rule from 1 to 24 is violated, and neither limit 3 nor 4 is passed (T.800, A.2 to A.6).
+/// rule from 1 to 24 is violated, nor rule 37, and neither limit 3 nor 4 is passed (T.800, A.2 to A.7).
 pub fn output_is_spelled()
     ensures { (m : Marks) (s : Stream) (blocks : List Block) (b : List ℕ) (out : IsOutput m s blocks b) → AreReady m s
         → AllShort out.parts (tile_number s.siz) → IsRead b (stream_read m s out.parts) }
@@ -145,9 +145,9 @@ pub fn one_output()
         → xs ≡ ys }
 {}
 
-/// The headers that are written, with 1 to 65,535 layers, are such as a file may be written from, where nothing is in the way: no
-/// POC and no PLT stands in them, each COD announces SOP and EPH as asked, no tile is cut into over 255 tile-parts, and the index has
-/// room for all tile-parts where it is asked (T.800, A.4, A.6 to A.8).
+/// The headers that are written, with 1 to 65,535 layers, are such as a file may be written from, where nothing is in
+/// the way: no POC, PLT, PPM or PPT stands in them, each COD announces SOP and EPH as asked, no tile is cut into over
+/// 255 tile-parts, and the index has room for all tile-parts where it is asked (T.800, A.4, A.6 to A.8).
 pub fn written_is_ready()
     ensures { (w : Wanted) (layers : ℕ) (s : Stream) → 1 ≤ layers → layers < 2 ^ 16 → MayBeWanted w → HeadersStand s → StreamInRange s → totals_fault s ≡ None
         → IsFree s w layers → AreReady w.marks (headers_with w layers s) }
