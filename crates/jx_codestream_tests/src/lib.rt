@@ -12,6 +12,8 @@ mod gather_tests;
 #[cfg(test)]
 mod make_tests;
 #[cfg(test)]
+mod packed_tests;
+#[cfg(test)]
 mod stream_tests;
 #[cfg(test)]
 mod view_tests;

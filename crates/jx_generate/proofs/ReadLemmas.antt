@@ -28,14 +28,17 @@ use Rattle.jx_base.specs.Limits.{most_blocks}
 
 main_stands : AreSegments Main 3 [] main_made
 main_stands = (
-  record { range = cod_in_range; stands = refl; inside = refl; once = refl },
-  (record { range = qcd_in_range; stands = refl; inside = refl; once = refl }, (record { range = com_in_range; stands = refl; inside = refl; once = refl }, tt)),
+  record { range = cod_in_range; stands = refl; once_packed = refl; inside = refl; once = refl },
+  (
+    record { range = qcd_in_range; stands = refl; once_packed = refl; inside = refl; once = refl },
+    (record { range = com_in_range; stands = refl; once_packed = refl; inside = refl; once = refl }, tt),
+  ),
 )
 
 part_long : (body : List ℕ) → 14 + length body ≡ length (part_bytes 3 (part_with body))
 part_long body = omega arith
 
-part_stands : (w h : ℕ) (body : List ℕ) → AreSizes w h → 14 + length body < 2 ^ 32 → IsTilePart 3 (tile_number (siz_made w h)) [] (part_with body)
+part_stands : (w h : ℕ) (body : List ℕ) → AreSizes w h → 14 + length body < 2 ^ 32 → IsTilePart false 3 (tile_number (siz_made w h)) [] (part_with body)
 part_stands w h body sizes few = record {
   range = record { tile = omega arith; psot = few; part = omega arith; parts = omega arith };
   header = tt;
@@ -77,6 +80,7 @@ spelled w h body sizes few = record {
   some = omega arith;
   tile_parts = (part_stands w h body sizes few, inl (part_long body), tt);
   each = each_tile w h (tile_number (siz_made w h)) body (count_one w h sizes);
+  packed = refl;
   tiles = tiles_are w h (tile_number (siz_made w h)) body (count_one w h sizes);
   entries = entries_enough (length body);
 }

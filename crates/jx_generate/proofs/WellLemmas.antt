@@ -1,5 +1,5 @@
 -- A made file is well formed, and within the limits.
-use Rattle.std.proofs.Common.{◌≡◌, ℕ, ◌+◌, ◌^◌, ◌≤◌, ◌<◌, List, [], ◌∷◌, ◌++◌, length, sym, subst, arith, append-nil, length-append}
+use Rattle.std.proofs.Common.{◌≡◌, ℕ, ◌+◌, ◌^◌, ◌≤◌, ◌<◌, List, [], ◌∷◌, ◌++◌, length, refl, sym, subst, arith, append-nil, length-append}
 use Rattle.jx_geom.specs.Geometry.{Geometry}
 use Rattle.jx_marker.specs.Codes.{EOC}
 use Rattle.jx_marker.specs.Values.{canvas_bytes}
@@ -48,6 +48,7 @@ laid_0 seed w h sizes =
     let size : ℕ = length (body_made seed w h) in
     record {
       order = subst (λ (list : List PacketName). IsListOf (stream_made w h size) 0 list) (sym (append-nil names_made)) (order_0 w h size sizes);
+      in_place = refl;
       written = all_written seed w h size sizes;
       filled = all_filled seed w h;
     }

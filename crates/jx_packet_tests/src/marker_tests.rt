@@ -38,6 +38,10 @@ FF64_0002
 FF58_0003_00
 FF57_0003_00
 FF55_0004_00_50
+FF60_0003_00
+FF60_0006_FF_010203
+FF61_0003_07
+FF61_0005_00_80FF
 FF90_000A_0000_0000000F_00_01
 FF90_000A_FFFE_FFFFFFFF_FF_00
 FF93
@@ -145,7 +149,7 @@ fn segments_are_put_again(rt: HostRuntime) -> Result<(), Fail> {
 }
 
 // A segment of each kind, and how many components the picture has.
-static FIELDS: [(&str, u16); 6] = [
+static FIELDS: [(&str, u16); 8] = [
     (
         "FF51_002C_1234_00000101_00000202_00000003_00000004_00000105_00000206_00000001_00000002_0002_070101_8B0203",
         0,
@@ -155,6 +159,8 @@ static FIELDS: [(&str, u16); 6] = [
     ("FF5D_000A_02_41_4801_4902_4A03", 3),
     ("FF5F_000B_01_0002_0304_05_0106_03", 300),
     ("FF90_000A_0102_00030405_06_07", 3),
+    ("FF60_0005_09_8001", 3),
+    ("FF61_0003_0A", 3),
 ];
 
 // Fields by their values, as the standard's tables have them.
@@ -199,6 +205,13 @@ fn has_fields(rt: &impl Abort, segment: &Segment) {
             (sot.tile, sot.psot, sot.part, sot.parts),
             (0x102, 0x30405, 6, 7),
         ),
+        Segment::Ppm { index, bytes } => {
+            equal(rt, *index, 9);
+            equal(rt, bytes.as_slice(), [0x80, 0x01].as_slice());
+        }
+        Segment::Ppt { index, bytes } => {
+            equal(rt, (*index, bytes.as_slice().len()), (10, 0));
+        }
         _ => check(rt, false),
     }
 }

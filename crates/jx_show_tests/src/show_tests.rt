@@ -48,6 +48,8 @@ code-blocks: 1
 tile-parts: 1
 PLT: no
 PLM: no
+PPM: no
+PPT: no
 TLM: no
 comments: 0
 coded bytes: 0
@@ -111,6 +113,8 @@ code-blocks: 5
 tile-parts: 1
 PLT: yes
 PLM: no
+PPM: no
+PPT: no
 TLM: no
 comments: 2
 coded bytes: 1
