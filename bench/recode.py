@@ -60,7 +60,7 @@ def by_kind(program, picture, path):
         runs = (
             ["opj_decompress", "-threads", "1", "-i", coded, "-o", path("back.ppm")],
             ["opj_compress", "-threads", "1", "-i", picture, "-o", path("again.j2k"), *options],
-            [program, "transcode", coded, path("out.j2k"), "--style", style],
+            [program, "transcode", coded, path("out.j2k"), "--style", style, "--threads", "1"],
         )
         found = [[timed(command)[1] for command in runs] for _ in range(3)]
         back, again, jx = (statistics.median(column) for column in zip(*found))
@@ -87,7 +87,7 @@ def main(words):
                 runs[f"jx --style {style}, {n}"] = [program, "transcode", path("in.j2k"), path("out.j2k"), "--style", style, "--threads", n]
         for n in MORE:
             runs[f"jx --style terminate, {n}"] = [program, "transcode", path("in.j2k"), path("out.j2k"), "--style", "terminate", "--threads", n]
-        runs["jx --style causal, 1"] = [program, "transcode", path("in.j2k"), path("out.j2k"), "--style", "causal"]
+        runs["jx --style causal, 1"] = [program, "transcode", path("in.j2k"), path("out.j2k"), "--style", "causal", "--threads", "1"]
         found = {name: [] for name in runs}
         for _ in range(RUNS):
             for name, command in runs.items():

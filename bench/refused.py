@@ -161,7 +161,7 @@ RIGHT, WRONG = bytes.fromhex("C02101"), bytes.fromhex("C02103")
 RUNS = (
     ("SOP", SMALL, ["--sop"], 0),
     ("segment", with_bodies([ONE], 0), ["--style", "segment"], 0),
-    ("terminate, 1 thread", with_bodies([FOUR], 0), ["--style", "terminate"], 0),
+    ("terminate, 1 thread", with_bodies([FOUR], 0), ["--style", "terminate", "--threads", "1"], 0),
     ("terminate, 4 threads", with_bodies([FOUR], 0), ["--style", "terminate", "--threads", "4"], 0),
     ("eight terminated, 4 threads", with_bodies([FOUR] * 8, 0), ["--style", "terminate", "--threads", "4"], 0),
     ("two wrong of 8, 4 threads", with_bodies([WRONG if at in (3, 7) else RIGHT for at in range(8)], 32), ["--style", "none", "--threads", "4"], 6),

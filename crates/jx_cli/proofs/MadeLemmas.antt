@@ -30,7 +30,7 @@ use Rattle.jx_options.proofs.OrderWords.{order_back, order_word}
 use Rattle.jx_base.specs.Texts.{number_in}
 use Rattle.jx_options.specs.declared.names.OptionName.TheVariants as option
 use Rattle.jx_cli.proofs.FlagLemmas.{AreAbsent, AreFlags, Flags, IsFlag, all_marked, at_rows, fault_on, flag_row, flag_words, flagged, flags_taken, flags_walked, look_all_marked, shape, walk_on}
-use Rattle.jx_cli.proofs.ValueLemmas.{precincts_back, precincts_word, reduce_back, style_back, style_word}
+use Rattle.jx_cli.proofs.ValueLemmas.{precincts_back, precincts_word, reduce_back, style_back, style_word, threads_back, threads_word}
 use Rattle.jx_cli.proofs.RowLemmas.{default_of, defaulted, has_looked, look, look_added, no_default_fault, row_with, values_added}
 
 -- ---- each flag
@@ -282,7 +282,7 @@ given_for r = record {
   form = form_word r.form;
   reduce = decimal r.reduce;
   limit_bytes = decimal r.limit;
-  threads = decimal r.work.threads;
+  threads = threads_word r.work.threads;
   window = decimal r.work.window;
   window_bytes = decimal r.work.most;
 }
@@ -292,9 +292,6 @@ words_for r = made_words (given_for r)
 
 found_for : (r : Request) → given_in (words_for r) ≡ given_for r
 found_for r = made_found (given_for r)
-
-threads_back : (w : Work) → MayBeWork w → number_in 64 (decimal w.threads) ≡ Some w.threads
-threads_back w may = number_spelled 64 w.threads (omega arith) may.some_threads may.few_threads
 
 window_back : (w : Work) → MayBeWork w → number_in 1024 (decimal w.window) ≡ Some w.window
 window_back w may = number_spelled 1024 w.window (omega arith) may.some_window may.few_window
@@ -308,7 +305,7 @@ most_back w may = number_spelled most_bytes w.most (omega arith) may.some_most m
 values_good : (r : Request) → MayBeAsked r → are_values (given_for r) ≡ true
 unfolding are_values
 values_good r may =
-    rw (order_back r.wanted.order may.order, precincts_back r.wanted.precincts may.precincts, parts_back r.wanted.marks.parts, style_back r.wanted.style may.style, rsiz_back r.wanted.rsiz, form_back r.form, reduce_back r.reduce may.reduce, limit_back r.limit may.limit, threads_back r.work may.work, window_back r.work may.work, most_back r.work may.work) refl
+    rw (order_back r.wanted.order may.order, precincts_back r.wanted.precincts may.precincts, parts_back r.wanted.marks.parts, style_back r.wanted.style may.style, rsiz_back r.wanted.rsiz, form_back r.form, reduce_back r.reduce may.reduce, limit_back r.limit may.limit, threads_back r.work.threads may.work.few_threads, window_back r.work may.work, most_back r.work may.work) refl
 
 values_made : (r : Request) → MayBeAsked r → wanted_by (given_for r) ≡ r.wanted
 unfolding wanted_by
@@ -317,7 +314,7 @@ values_made r may =
 
 work_made : (r : Request) → MayBeAsked r → work_by (given_for r) ≡ r.work
 unfolding work_by
-work_made r may = rw (threads_back r.work may.work, window_back r.work may.work, most_back r.work may.work) refl
+work_made r may = rw (threads_back r.work.threads may.work.few_threads, window_back r.work may.work, most_back r.work may.work) refl
 
 made_good : (r : Request) → MayBeAsked r → is_good ([] ∷ words_for r) ≡ true
 unfolding is_good

@@ -8,12 +8,11 @@ use Rattle.jx_cli.specs.MakeFound.{texts_of, under}
 use Rattle.jx_cli.specs.SameWords.{AsksSame, MayBeCompared, Pair, are_numbers, is_asked, is_same, is_taken, pair_by, same, same_of}
 use Rattle.jx_cli.specs.Words.{Text, said_of}
 use Rattle.jx_options.specs.declared.names.OptionName.TheVariants as option
-use Rattle.jx_options.specs.Names.{number_said}
-use Rattle.jx_options.proofs.NumberLemmas.{number_spelled}
 use Rattle.jx_cli.proofs.BoxesLemmas.{no_fault}
 use Rattle.jx_cli.proofs.CommandLemmas.{asked_by, none_moved, some_moved, texts_moved, unasked_by}
 use Rattle.jx_cli.proofs.MadeLemmas.{limit_back}
-use Rattle.jx_cli.proofs.WantedLemmas.{limit_within, number_within}
+use Rattle.jx_cli.proofs.ValueLemmas.{threads_back, threads_word}
+use Rattle.jx_cli.proofs.WantedLemmas.{limit_within, threads_within}
 
 pub same_free : is_simple_and_free same ≡ true
 unfolding clap_on_literals same with_option with_place
@@ -35,8 +34,7 @@ paired a words found names is same_texts by = by ∙ ap pair_by (same_texts ∙ 
 pub pair_may_be : (found : Text → Option Text) → MayBeCompared (pair_by found)
 unfolding pair_by
 pair_may_be found =
-    let within = number_within 64 1 (said_of found option.CompareThreads) (omega arith, omega arith) in
-    record { some_threads = within.0; few_threads = within.1; limit = limit_within (said_of found option.LimitBytes) }
+    record { few_threads = threads_within (said_of found option.CompareThreads); limit = limit_within (said_of found option.LimitBytes) }
 
 pub words_may_be : (words : List Text) → MayBeCompared (same_of words)
 unfolding same_of
@@ -66,21 +64,18 @@ limit_found : (first second threads limit : Text) → said_of (texts_of same (wo
 unfolding clap_on_literals same with_option with_place
 limit_found first second threads limit = refl
 
-threads_back : (n : ℕ) → 1 ≤ n → n ≤ 64 → number_said option.CompareThreads (decimal n) ≡ Some n
-threads_back n some few = number_spelled 64 n (omega arith) some few
-
 abbrev words_of : Pair → List Text
-words_of p = words_for p.first p.second (decimal p.threads) (decimal p.limit)
+words_of p = words_for p.first p.second (threads_word p.threads) (decimal p.limit)
 
 words_good : (p : Pair) → MayBeCompared p → is_same ([] ∷ words_of p) ≡ true
 unfolding is_same
 words_good p may =
-    let none : is_taken (words_of p) ≡ true = no_fault (fault_of same (words_of p)) (words_taken p.first p.second (decimal p.threads) (decimal p.limit)) in
+    let none : is_taken (words_of p) ≡ true = no_fault (fault_of same (words_of p)) (words_taken p.first p.second (threads_word p.threads) (decimal p.limit)) in
     rw (
       none,
-      threads_found p.first p.second (decimal p.threads) (decimal p.limit),
-      threads_back p.threads may.some_threads may.few_threads,
-      limit_found p.first p.second (decimal p.threads) (decimal p.limit),
+      threads_found p.first p.second (threads_word p.threads) (decimal p.limit),
+      threads_back p.threads may.few_threads,
+      limit_found p.first p.second (threads_word p.threads) (decimal p.limit),
       limit_back p.limit may.limit,
     ) refl
 
@@ -88,11 +83,11 @@ words_named : (p : Pair) → MayBeCompared p → same_of ([] ∷ words_of p) ≡
 unfolding same_of pair_by
 words_named p may =
     rw (
-      first_found p.first p.second (decimal p.threads) (decimal p.limit),
-      second_found p.first p.second (decimal p.threads) (decimal p.limit),
-      threads_found p.first p.second (decimal p.threads) (decimal p.limit),
-      threads_back p.threads may.some_threads may.few_threads,
-      limit_found p.first p.second (decimal p.threads) (decimal p.limit),
+      first_found p.first p.second (threads_word p.threads) (decimal p.limit),
+      second_found p.first p.second (threads_word p.threads) (decimal p.limit),
+      threads_found p.first p.second (threads_word p.threads) (decimal p.limit),
+      threads_back p.threads may.few_threads,
+      limit_found p.first p.second (threads_word p.threads) (decimal p.limit),
       limit_back p.limit may.limit,
     ) refl
 

@@ -1,18 +1,18 @@
 -- The words of values that are neither listed nor numbers from 1 up: precincts, styles, and resolutions that are left out.
-use Rattle.std.proofs.Common.{◌≡◌, ◌<◌, ◌≤◌, ◌⊎◌, ◌∙◌, ◌/◌, ◌%◌, ap, sym, subst, arith, ℕ, List, [], ◌∷◌, ◌++◌, false, refl, codes, Option, None, Some, IfSome, inl, inr, slice_index_or, length}
+use Rattle.std.proofs.Common.{◌≡◌, ◌<◌, ◌≤◌, ◌⊎◌, ◌∙◌, ◌/◌, ◌%◌, ap, sym, subst, arith, ℕ, List, [], ◌∷◌, ◌++◌, ◌==◌, false, refl, codes, get_or, if◌then◌else◌, Option, None, Some, IfSome, inl, inr, slice_index_or, length}
 use Rattle.std.specs.Str.{bytes_eq}
 use Rattle.std.specs.Option.{option_map, option_or}
 use Rattle.std.specs.Fmt.{decimal}
-use Rattle.std.proofs.lemmas.Bool.{cases_Bool, cases_lt}
+use Rattle.std.proofs.lemmas.Bool.{cases_Bool, cases_lt, ne_eqb}
 use Rattle.std.proofs.lemmas.List.{append_assoc}
 use Rattle.std.proofs.lemmas.Slice.Eq.{bytes_eq-Decides}
 use Rattle.std.proofs.lemmas.Fmt.{decimal_digit, decimal_injective}
 use Rattle.jx_base.specs.declared.style.Style.{Style}
-use Rattle.jx_options.specs.Names.{reduce_said}
+use Rattle.jx_options.specs.Names.{reduce_said, thread_count}
 use Rattle.jx_options.specs.Values.{ArePrecincts, precincts_in, precincts_said, precincts_text, style_said, style_text, value_in, whole_choices}
 use Rattle.jx_options.specs.Wanted.{MayBeStyle}
 use Rattle.jx_options.proofs.ItemLemmas.{two_digits}
-use Rattle.jx_options.proofs.NumberLemmas.{number_spelled}
+use Rattle.jx_options.proofs.NumberLemmas.{first_digit, number_spelled}
 use Rattle.jx_options.proofs.SpellLemmas.{first_byte, precincts_spelled}
 use Rattle.jx_options.proofs.StyleLemmas.{style_spelled}
 use Rattle.jx_cli.specs.Words.{Text}
@@ -80,4 +80,24 @@ reduce_back n few = elim (cases_lt 0 n) [
       let is : n ≡ 0 = omega arith in
       let digit : decimal n ≡ codes "0" = ap decimal is ∙ decimal_digit 0 (omega arith) in
       rw digit (ap Some (sym is))
+]
+
+abbrev pub threads_word : ℕ → Text
+threads_word n = if n == 0 then codes "auto" else decimal n
+
+-- digits aren't `auto`
+pub threads_back : (n : ℕ) → n ≤ 64 → thread_count (threads_word n) ≡ Some n
+threads_back n few = elim (cases_lt 0 n) [
+  | inl some ↦
+      let other : bytes_eq (decimal n) (codes "auto") ≡ false = elim (cases_Bool (bytes_eq (decimal n) (codes "auto"))) [
+        | inl t ↦
+            let same : get_or (decimal n) 0 0 ≡ 97 = ap (λ text. get_or text 0 0) ((bytes_eq-Decides (decimal n) (codes "auto")).0 t) in
+            absurd (omega (arith, same, (first_digit n some (omega arith)).1))
+        | inr t ↦ t
+      ] in
+      let numbered : (n == 0) ≡ false = ne_eqb n 0 (λ is. omega (arith, is, some)) in
+      rw (numbered, other) (number_spelled 64 n (omega arith) some few)
+  | inr none ↦
+      let is : n ≡ 0 = omega arith in
+      rw is refl
 ]

@@ -7,7 +7,7 @@ use Rattle.jx_base.specs.OrderNumbers.{IsOrderNumber}
 use Rattle.jx_marker.specs.Ranges.{AreBytes}
 use Rattle.jx_base.specs.declared.style.Style.{Style}
 use Rattle.jx_options.specs.Wanted.{MayBeStyle, MayBeWanted}
-use Rattle.jx_options.specs.Names.{reduce_said}
+use Rattle.jx_options.specs.Names.{reduce_said, thread_count}
 use Rattle.jx_options.specs.Orders.{order_said}
 use Rattle.jx_options.specs.Values.{ArePrecincts, precincts_in, precincts_said, style_said, value_in, whole_choices}
 use Rattle.jx_cli.specs.Words.{Given, MayBeAsked, given_in, request_by, request_of, wanted_by, work_by}
@@ -76,13 +76,22 @@ number_within most default text may = by (number_in most text) refl
         let read = number_read most n text is in
         (read.0, read.1)
 
+-- `auto`, a number that is said, or the default
+pub threads_within : (text : List ℕ) → unwrap_or (thread_count text) 0 ≤ 64
+threads_within text = by (bytes_eq text (codes "auto")) (number_in 64 text) refl
+  where
+    by : (free : Bool) (o : Option ℕ) → number_in 64 text ≡ o → unwrap_or (if free then Some 0 else o) 0 ≤ 64
+    by true o is = omega arith
+    by false None is = omega arith
+    by false (Some n) is = (number_read 64 n text is).1
+
 pub work_may_be : (g : Given) → MayBeWork (work_by g)
 unfolding work_by
 work_may_be g =
-    let threads = number_within 64 1 g.threads (omega arith, omega arith) in
+    let threads = threads_within g.threads in
     let window = number_within 1024 64 g.window (omega arith, omega arith) in
     let most = number_within most_bytes 268435456 g.window_bytes (omega arith, omega arith) in
-    record { some_threads = threads.0; few_threads = threads.1; some_window = window.0; few_window = window.1; some_most = most.0; few_most = most.1 }
+    record { few_threads = threads; some_window = window.0; few_window = window.1; some_most = most.0; few_most = most.1 }
 
 -- 0, a number that is said, or the default
 reduce_within : (text : List ℕ) → unwrap_or (reduce_said text) 0 ≤ 32

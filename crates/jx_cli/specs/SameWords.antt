@@ -6,10 +6,10 @@ use Rattle.jx_cli.specs.Command.{with_options, with_place}
 use Rattle.jx_cli.specs.MakeFound.{texts_of, under}
 use Rattle.jx_cli.specs.Words.{Text, limit_in, said_of}
 use Rattle.jx_options.specs.declared.names.OptionName.TheVariants as option
-use Rattle.jx_options.specs.Names.{number_said, same_names}
+use Rattle.jx_options.specs.Names.{same_names, thread_count}
 use Rattle.jx_options.specs.Work.{MayBeLimit}
 
--- the names of two files, how many threads compare them, and the most bytes that each may have
+-- the names of two files, how many threads compare them (0: as many as the system has free), and the most bytes that each may have
 pub record Pair : Type 0 where
   pub first : Text
   pub second : Text
@@ -18,7 +18,6 @@ pub record Pair : Type 0 where
 
 -- what words can ask for; a name may be any text
 pub record MayBeCompared (p : Pair) : Type 0 where
-  pub some_threads : 1 ≤ p.threads
   pub few_threads : p.threads ≤ 64
   pub limit : MayBeLimit p.limit
 
@@ -35,9 +34,9 @@ is_taken words = eqb (length (fault_of same words)) 0
 
 -- ---- by the text that clap finds under each name
 abbrev pub threads_in : (Text → Option Text) → Option ℕ
-threads_in found = number_said option.CompareThreads (said_of found option.CompareThreads)
+threads_in found = thread_count (said_of found option.CompareThreads)
 
--- both texts say a number
+-- both texts say a number, or that of the threads `auto`
 abbrev pub are_numbers : (Text → Option Text) → Bool
 are_numbers found = is_some (threads_in found) && is_some (limit_in found)
 
@@ -45,7 +44,7 @@ unfoldable pub pair_by : (Text → Option Text) → Pair
 pair_by found = record {
   first = under found (codes "a");
   second = under found (codes "b");
-  threads = unwrap_or (threads_in found) 1;
+  threads = unwrap_or (threads_in found) 0;
   limit = unwrap_or (limit_in found) 268435456;
 }
 

@@ -12,7 +12,7 @@ use Rattle.jx_options.specs.declared.RsizChoice.TheVariants as rsiz
 use Rattle.jx_cli.specs.Command.{transcode}
 use Rattle.jx_options.specs.declared.names.OptionName.{OptionName}
 use Rattle.jx_options.specs.declared.names.OptionName.TheVariants as option
-use Rattle.jx_options.specs.Names.{form_said, name_of, number_said, parts_said, reduce_said, rsiz_said}
+use Rattle.jx_options.specs.Names.{form_said, name_of, number_said, parts_said, reduce_said, rsiz_said, thread_count}
 use Rattle.jx_options.specs.Orders.{order_said}
 use Rattle.jx_options.specs.Values.{ArePrecincts, precincts_said, style_said}
 
@@ -101,7 +101,7 @@ given_in words = given_by (found_in words)
 -- the values that say how the work is done
 abbrev pub is_work : Given → Bool
 is_work g =
-    is_some (number_said option.Threads g.threads) && (is_some (number_said option.Window g.window) && is_some (number_said option.WindowBytes g.window_bytes))
+    is_some (thread_count g.threads) && (is_some (number_said option.Window g.window) && is_some (number_said option.WindowBytes g.window_bytes))
 
 -- each value is one of its option's
 unfoldable pub are_values : Given → Bool
@@ -119,7 +119,7 @@ wanted_by g = record {
 
 unfoldable pub work_by : Given → Work
 work_by g = record {
-  threads = unwrap_or (number_said option.Threads g.threads) default_work.threads;
+  threads = unwrap_or (thread_count g.threads) default_work.threads;
   window = unwrap_or (number_said option.Window g.window) default_work.window;
   most = unwrap_or (number_said option.WindowBytes g.window_bytes) default_work.most;
 }

@@ -40,7 +40,7 @@ pub fn boxes_have_words()
     ensures asked { (words : List Text) → is_boxes words ≡ true → MayBeLimit (boxes_of words).limit }
 {}
 
-/// Good words of `same` ask for 1 to 64 threads and files of 1 to 2^32 - 1 bytes, and each two names and such numbers are asked for by some.
+/// Good words of `same` ask for 0 to 64 threads and files of 1 to 2^32 - 1 bytes, and each two names and such numbers are asked for by some.
 pub fn same_has_words()
     ensures made { (names : Pair) → MayBeCompared names → AsksSame names }
     ensures asked { (words : List Text) → is_same words ≡ true → MayBeCompared (same_of words) }

@@ -16,6 +16,7 @@ use jx_base::{NoMemory, Style};
 use jx_options::{
     FormChoice, Marks, OptionName, Options, OrderChoice, PartChoice, PrecinctChoice, RsizChoice,
     Work, form_said, order_said, parts_said, precincts_said, reduce_said, rsiz_said, style_said,
+    thread_count,
 };
 use std::alloc::Global;
 use std::marker::Model;
@@ -119,7 +120,7 @@ fn work_by(given: &Given<'_>) -> Option<Work>
     ensures some { IfSome result (λ w. (is_work given.now ≡ true) × (w ≡ work_by given.now)) }
     ensures none { result ≡ None → is_work given.now ≡ false }
 {
-    let threads = OptionName::Threads.number(given.threads)?;
+    let threads = thread_count(given.threads)?;
     let window = OptionName::Window.number(given.window)?;
     let most = OptionName::WindowBytes.number(given.window_bytes)?;
     Some(Work {

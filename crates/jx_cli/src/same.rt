@@ -9,7 +9,7 @@ use crate::WordsFault;
 use crate::command::same;
 use crate::given::{limit_in, matches_in, said_of, text_of};
 use clap::ArgMatches;
-use jx_options::OptionName;
+use jx_options::{OptionName, thread_count};
 use std::alloc::Global;
 use std::marker::Model;
 
@@ -20,7 +20,7 @@ pub struct Pair {
     pub first: String,
     /// The name of the second.
     pub second: String,
-    /// How many threads compare code-blocks, 1 to 64.
+    /// How many threads compare code-blocks, 1 to 64; 0 for as many as the system has free.
     pub threads: u32,
     /// The most bytes that each file may have, 1 to 2^32 - 1.
     pub limit: u32,
@@ -50,7 +50,7 @@ impl Pair {
         self.second.as_str()
     }
 
-    /// How many threads compare code-blocks.
+    /// How many threads compare code-blocks, 1 to 64; 0 for as many as the system has free.
     pub fn threads(&self) -> u32
         ensures { result ≡ self.now.threads }
     {
@@ -97,8 +97,7 @@ fn pair_by(alloc: Global, matches: &ArgMatches<'_>) -> Result<Pair, WordsFault>
     ensures value { IfOk result (λ pair. pair ≡ pair_by (first_value (found_of matches.now))) }
     ensures words { result ≡ Err WordsFault.Words → are_numbers (first_value (found_of matches.now)) ≡ false }
 {
-    let threads = said_of(matches, OptionName::CompareThreads);
-    let Some(threads) = OptionName::CompareThreads.number(threads) else {
+    let Some(threads) = thread_count(said_of(matches, OptionName::CompareThreads)) else {
         return Err(WordsFault::Words);
     };
     let Some(limit) = limit_in(matches) else {
@@ -138,8 +137,8 @@ fn names_same(words: &[String]) -> bool
 /// Reads the words of the command line, the program's name among them: the names of the files that are compared, by how many threads, and
 /// how many bytes each may have.
 ///
-/// They name the command `same`, and clap reads the words behind it: two names, `--threads` with 1 to 64, which is 1 where it isn't there,
-/// and `--limit-bytes` with 1 to 2^32 - 1, which is 2^28 where it isn't there.
+/// They name the command `same`, and clap reads the words behind it: two names, `--threads` with 1 to 64 or `auto`, which stands for it
+/// where it isn't there, and `--limit-bytes` with 1 to 2^32 - 1, which is 2^28 where it isn't there.
 ///
 /// # Errors
 /// `Words` where they aren't good words, `NoMemory` where there was no memory.

@@ -18,7 +18,8 @@ fn input(alloc: Global, name: &str, done: &str, cause: &str) -> Result<String, A
 
 /// The same of the files that are read.
 fn inputs(alloc: Global, words: &[String], done: &str, cause: &str) -> Result<String, AllocError>
-    ensures { IfOk result (λ text. string_bytes text ≡ input_words (inputs_in (map string_bytes words.now)) done.now cause.now) }
+    ensures { IfOk result (λ text. string_bytes text
+        ≡ input_words (inputs_in (map string_bytes words.now)) done.now cause.now) }
 {
     let names = inputs_of(alloc, words)?;
     input(alloc, names.as_str(), done, cause)
@@ -113,7 +114,8 @@ pub fn explain_fault(
     cause: &str,
     words: &[String],
 ) -> Result<String, AllocError>
-    ensures { IfOk result (λ text. string_bytes text ≡ fault_words step cause.now (shown_all (map string_bytes words.now))) }
+    ensures { IfOk result (λ text. string_bytes text
+        ≡ fault_words step cause.now (shown_all (map string_bytes words.now))) }
 {
     let shown = shown_words(alloc, words)?;
     fault_text(alloc, step, cause, &shown)

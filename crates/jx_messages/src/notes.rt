@@ -26,7 +26,8 @@ fn positions_kept(alloc: Global, words: &[String]) -> Result<String, AllocError>
 ///
 /// `AllocError` where memory is refused.
 pub fn note_positions(alloc: Global, words: &[String]) -> Result<String, AllocError>
-    ensures { IfOk result (λ text. string_bytes text ≡ positions_note (name_in (shown_all (map string_bytes words.now)) 1)) }
+    ensures { IfOk result (λ text. string_bytes text
+        ≡ positions_note (name_in (shown_all (map string_bytes words.now)) 1)) }
 {
     let shown = shown_words(alloc, words)?;
     positions_kept(alloc, &shown)

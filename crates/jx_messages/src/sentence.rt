@@ -39,7 +39,8 @@ fn rule_filled(
     place: u64,
     input: &str,
 ) -> Result<String, AllocError>
-    ensures { IfOk result (λ said. string_bytes said ≡ rule_filled (rule_row text.what.now text.wrong.now text.section.now) number place input.now) }
+    ensures { IfOk result (λ said. string_bytes said
+        ≡ rule_filled (rule_row text.what.now text.wrong.now text.section.now) number place input.now) }
 {
     let front = rule_front(alloc, input, text.what, place, text.wrong)?;
     let section = text.section;
@@ -70,7 +71,8 @@ fn limit_filled(
     found: u128,
     input: &str,
 ) -> Result<String, AllocError>
-    ensures { IfOk result (λ said. string_bytes said ≡ limit_filled (limit_row text.what.now text.most text.advice.now) number found input.now) }
+    ensures { IfOk result (λ said. string_bytes said
+        ≡ limit_filled (limit_row text.what.now text.most text.advice.now) number found input.now) }
 {
     let front = limit_front(alloc, input, found, text.what)?;
     let most = text.most;
@@ -102,7 +104,8 @@ fn misfit(
     down: u8,
     words: &[String],
 ) -> Result<String, AllocError>
-    ensures { IfOk result (λ text. string_bytes text ≡ misfit_sentence place comp res across down (map string_bytes words.now)) }
+    ensures { IfOk result (λ text. string_bytes text
+        ≡ misfit_sentence place comp res across down (map string_bytes words.now)) }
 {
     let list = asked(words, option_of(2));
     misfit_text(alloc, place, comp, res, across, down, list)

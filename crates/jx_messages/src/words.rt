@@ -162,7 +162,8 @@ fn value_among<'a>(words: &'a [String], option: &str) -> Option<&'a str>
 
 /// The value of an option behind the command.
 pub(crate) fn value_of<'a>(words: &'a [String], option: &str) -> Option<&'a str>
-    ensures { option_map (λ value. value.now) result ≡ value_among option.now (drop 2 (map string_bytes words.entry.now)) }
+    ensures { option_map (λ value. value.now) result
+        ≡ value_among option.now (drop 2 (map string_bytes words.entry.now)) }
 {
     if words.len() < 2 {
         return None;

@@ -31,7 +31,7 @@ digits = numerals_by_value (λ text. all_ascii_digits text ≡ true) tells_all_a
 abbrev pub BeginsWell : List ℕ → Type 0
 BeginsWell text = (49 ≤ get_or text 0 0) × (get_or text 0 0 ≤ 57)
 
-first_digit : (n : ℕ) → 1 ≤ n → n < 2 ^ 64 → BeginsWell (decimal n)
+pub first_digit : (n : ℕ) → 1 ≤ n → n < 2 ^ 64 → BeginsWell (decimal n)
 first_digit n some small =
     let is = decimal_is_IsNumeral n small in
     let first = first_decimal n some small in

@@ -69,10 +69,10 @@ default_of name.Form = codes "keep"
 default_of name.Style = codes "keep"
 default_of name.Reduce = codes "0"
 default_of name.LimitBytes = codes "268435456"
-default_of name.Threads = codes "1"
+default_of name.Threads = codes "auto"
 default_of name.Window = codes "64"
 default_of name.WindowBytes = codes "268435456"
-default_of name.CompareThreads = codes "1"
+default_of name.CompareThreads = codes "auto"
 default_of name.Json = codes "false"
 
 -- it stands alone
@@ -125,6 +125,10 @@ number_said name = number_in (greatest_of name)
 abbrev pub reduce_said : List ℕ → Option ℕ
 reduce_said word = if bytes_eq word (codes "0") then Some 0 else number_said name.Reduce word
 
+-- how many threads: 1 to 64; 0 for as many as the system has free
+abbrev pub thread_count : List ℕ → Option ℕ
+thread_count word = if bytes_eq word (codes "auto") then Some 0 else number_said name.Threads word
+
 -- ---- values of all
 
 -- all the values, where these are few words
@@ -146,10 +150,10 @@ is_value name.Form word = is_some (form_said word)
 is_value name.Style word = is_some (style_said word)
 is_value name.Reduce word = is_some (reduce_said word)
 is_value name.LimitBytes word = is_some (number_said name.LimitBytes word)
-is_value name.Threads word = is_some (number_said name.Threads word)
+is_value name.Threads word = is_some (thread_count word)
 is_value name.Window word = is_some (number_said name.Window word)
 is_value name.WindowBytes word = is_some (number_said name.WindowBytes word)
-is_value name.CompareThreads word = is_some (number_said name.CompareThreads word)
+is_value name.CompareThreads word = is_some (thread_count word)
 is_value _ word = false
 
 -- what stands there where no option is among the words
@@ -202,10 +206,10 @@ what_of name.Form = codes "keep or j2k: of a JP2 file a JP2 file again, or\nthe 
 what_of name.Style = codes "keep, none, or names with + between them:\nbypass, reset, terminate, causal, segment\ndefault keep; as in --style terminate+reset"
 what_of name.Reduce = codes "leave out the D highest resolutions: the picture\nis 2^D times smaller both ways\n0 to 32, default 0; as in --reduce 1"
 what_of name.LimitBytes = codes "the most bytes that an input may have (limit 1)\n1 to 4294967295, default 268435456"
-what_of name.Threads = codes "workers that code blocks anew\n1 to 64, default 1; as in --threads 4"
+what_of name.Threads = codes "workers that code blocks anew: 1 to 64, or auto,\nas many as the system has free\ndefault auto; as in --threads 4"
 what_of name.Window = codes "blocks that are in work or wait for their turn\n1 to 1024, default 64; as in --window 16"
 what_of name.WindowBytes = codes "bytes of several such blocks together\n1 to 4294967295, default 268435456"
-what_of name.CompareThreads = codes "threads that compare code-blocks;\n1 to 64, default 1; as in --threads 4"
+what_of name.CompareThreads = codes "threads that compare code-blocks: 1 to 64, or\nauto, as many as the system has free\ndefault auto; as in --threads 4"
 what_of name.Json = codes "say a JSON object in place of lines"
 
 -- the least and the greatest of values that are numbers
@@ -222,4 +226,6 @@ range_of _ = []
 abbrev pub form_of : OptionName → List ℕ
 form_of name.Precincts = codes "keep, max, or 1 to 33 items XxY with commas, X and Y from 0 to 15"
 form_of name.Style = codes "keep, none, or names with + between them, each at most once:\n  bypass, reset, terminate, causal, segment"
+form_of name.Threads = codes "auto, or a number from 1 to 64, without a sign or leading zeros"
+form_of name.CompareThreads = codes "auto, or a number from 1 to 64, without a sign or leading zeros"
 form_of _ = []

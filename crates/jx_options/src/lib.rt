@@ -21,7 +21,7 @@ pub use options::{Options, OrderChoice, PrecinctChoice};
 pub use orders::{order_name, order_said};
 pub use values::{
     SEEDS, SIDES, form_said, parts_said, precincts_said, reduce_said, rsiz_said, seed_said,
-    side_said, style_said,
+    side_said, style_said, thread_count,
 };
 pub use work::Work;
 

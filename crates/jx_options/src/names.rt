@@ -6,7 +6,9 @@ ghost use Rattle.jx_options.specs.Names.{all_names, boxes_names, default_of, for
 
 use crate::numbers::number_in;
 use crate::orders::{order_help, order_said, order_words};
-use crate::values::{form_said, parts_said, precincts_said, reduce_said, rsiz_said, style_said};
+use crate::values::{
+    form_said, parts_said, precincts_said, reduce_said, rsiz_said, style_said, thread_count,
+};
 use jx_base::{MOST_BYTES, NoMemory};
 use std::alloc::Global;
 
@@ -167,7 +169,7 @@ impl OptionName {
             | OptionName::Json => "false",
             OptionName::Rsiz => "zero",
             OptionName::Reduce => "0",
-            OptionName::Threads | OptionName::CompareThreads => "1",
+            OptionName::Threads | OptionName::CompareThreads => "auto",
             OptionName::Window => "64",
             OptionName::LimitBytes | OptionName::WindowBytes => "268435456",
         }
@@ -218,11 +220,10 @@ impl OptionName {
             OptionName::Form => form_said(word).is_some(),
             OptionName::Style => style_said(word).is_some(),
             OptionName::Reduce => reduce_said(word).is_some(),
-            OptionName::LimitBytes
-            | OptionName::Threads
-            | OptionName::Window
-            | OptionName::WindowBytes
-            | OptionName::CompareThreads => self.number(word).is_some(),
+            OptionName::Threads | OptionName::CompareThreads => thread_count(word).is_some(),
+            OptionName::LimitBytes | OptionName::Window | OptionName::WindowBytes => {
+                self.number(word).is_some()
+            }
         };
         Ok(good)
     }
@@ -304,7 +305,7 @@ impl OptionName {
                 "the most bytes that an input may have (limit 1)\n1 to 4294967295, default 268435456"
             }
             OptionName::Threads => {
-                "workers that code blocks anew\n1 to 64, default 1; as in --threads 4"
+                "workers that code blocks anew: 1 to 64, or auto,\nas many as the system has free\ndefault auto; as in --threads 4"
             }
             OptionName::Window => {
                 "blocks that are in work or wait for their turn\n1 to 1024, default 64; as in --window 16"
@@ -313,7 +314,7 @@ impl OptionName {
                 "bytes of several such blocks together\n1 to 4294967295, default 268435456"
             }
             OptionName::CompareThreads => {
-                "threads that compare code-blocks;\n1 to 64, default 1; as in --threads 4"
+                "threads that compare code-blocks: 1 to 64, or\nauto, as many as the system has free\ndefault auto; as in --threads 4"
             }
             OptionName::Json => "say a JSON object in place of lines",
         }
@@ -362,6 +363,9 @@ impl OptionName {
             }
             OptionName::Style => {
                 "keep, none, or names with + between them, each at most once:\n  bypass, reset, terminate, causal, segment"
+            }
+            OptionName::Threads | OptionName::CompareThreads => {
+                "auto, or a number from 1 to 64, without a sign or leading zeros"
             }
             _ => "",
         }

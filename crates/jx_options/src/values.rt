@@ -2,7 +2,7 @@
 
 ghost use Rattle.std.specs.Prelude.{◌≡◌, IfOk, Some, codes, option_map};
 ghost use Rattle.jx_options.specs.Choices.{bytes_in};
-ghost use Rattle.jx_options.specs.Names.{form_said, parts_said, reduce_said, rsiz_said};
+ghost use Rattle.jx_options.specs.Names.{form_said, parts_said, reduce_said, rsiz_said, thread_count};
 ghost use Rattle.jx_options.specs.Values.{precincts_said, seed_said, side_said, style_said};
 
 use crate::numbers::{long_number_in, number_in};
@@ -75,6 +75,16 @@ pub fn reduce_said(word: &str) -> Option<u8>
         Some(number) => Some(number as u8),
         None => None,
     }
+}
+
+/// How many threads a word asks for, 1 to 64; 0 for as many as the system has free.
+pub fn thread_count(word: &str) -> Option<u32>
+    ensures { result ≡ thread_count word.now }
+{
+    if word == "auto" {
+        return Some(0);
+    }
+    number_in(64, word)
 }
 
 /// The precincts that a word asks for (ITU-T T.800, Table A.21).

@@ -8,7 +8,7 @@ use std::marker::Model;
 /// How the work is done.
 #[derive(Clone, Copy, Debug)]
 pub struct Work {
-    /// How many workers recode blocks, 1 to 64.
+    /// How many workers recode blocks, 1 to 64; 0 for as many as the system has free.
     pub threads: u32,
     /// How many blocks may stand between claim and sequence, 1 to 1,024.
     pub window: u32,
@@ -32,7 +32,7 @@ impl Work {
         ensures { result ≡ default_work }
     {
         Work {
-            threads: 1,
+            threads: 0,
             window: 64,
             most: 268_435_456,
         }

@@ -1,5 +1,4 @@
--- What is written has no POC, TLM, PLM, PLT, PPM, PPT or skipped marker and all CRG and COM of the main header, and
--- each tile's COD is as asked.
+-- What is written has no POC, TLM, PLM, PLT, PPM, PPT or skipped marker and all CRG and COM of the main header, and each tile's COD is as asked.
 use Rattle.std.proofs.Common.{◌≡◌, ◌∙◌, ◌<◌, ◌≤◌, ◌^◌, ℕ, true, false, nat_lt, arith, List, [], ◌∷◌, ◌++◌, length, refl, sym, ap, subst, Option, Some, None, inl, inr}
 use Rattle.std.specs.List.{All, filter, list_any}
 use Rattle.std.specs.Option.{option_or, option_map}

@@ -1,7 +1,6 @@
--- The headers of the file that is written, as a stream without tile data: Rsiz is 0, or kept where that is asked;
--- POC, PLT, PLM, TLM, PPM, PPT and skipped markers are left out; COD announces SOP and EPH as asked and has the order
--- and the number of layers that are written; COD and COC have the precincts and the style that are asked; a tile's
--- first header takes the COM segments of its later ones; all else is kept (ITU-T T.800, A.4 to A.9).
+-- The headers of the file that is written, as a stream without tile data: Rsiz is 0, or kept where that is asked; POC, PLT, PLM, TLM,
+-- PPM, PPT and skipped markers are left out; COD announces SOP and EPH as asked and has the order and the number of layers that are written; COD and COC have the precincts
+-- and the style that are asked; a tile's first header takes the COM segments of its later ones; all else is kept (ITU-T T.800, A.4 to A.9).
 use Rattle.std.specs.Prelude.{◌≤◌, ◌<◌, ◌^◌, ℕ, ◌+◌, ◌-◌, min, Bool, true, false, List, [], ◌∷◌, ◌++◌, length, map, Option, None, Some, IfSome, slice_index_or}
 use Rattle.std.specs.List.{filter, range_with_len}
 use Rattle.jx_base.specs.declared.style.Style.{Style}

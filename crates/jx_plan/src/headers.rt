@@ -303,11 +303,10 @@ fn write_siz(siz: &Siz, asked: RsizChoice) -> Result<Siz, NoMemory>
     Ok(copy)
 }
 
-/// The headers of the file that is written as the options ask, with so many layers in each tile, at least 1, as a
-/// stream without tile data: Rsiz is 0 or kept, as asked; POC, PLT, PLM, TLM, PPM, PPT and skipped markers are left
-/// out; each COD has SOP, EPH, order and layers as asked, and each COD and COC the precincts and the style; a tile's
-/// first header takes the COM segments of its later ones; all else is kept. Time and memory follow the bytes of the
-/// headers, the precincts that are written and the number of tiles.
+/// The headers of the file that is written as the options ask, with so many layers in each tile, at least 1, as a stream without
+/// tile data: Rsiz is 0 or kept, as asked; POC, PLT, PLM, TLM, PPM, PPT and skipped markers are left out; each COD has SOP, EPH,
+/// order and layers as asked, and each COD and COC the precincts and the style; a tile's first header takes the COM segments of its
+/// later ones; all else is kept. Time and memory follow the bytes of the headers, the precincts that are written and the number of tiles.
 ///
 /// # Errors
 ///

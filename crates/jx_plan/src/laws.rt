@@ -177,10 +177,11 @@ pub fn written_is_read_back()
         → ((t : ℕ) → t < tile_number s.siz → HaveHeaders a (length s.siz.comps) (tile_at s t) (parts_of t parts)) → IsWithMore (stream_written a s) other }
 {}
 
-/// No POC, TLM, PLM, PLT, PPM, PPT or skipped marker is written, and the main header has its CRG and COM segments in
-/// their order (T.800, A.7 and A.9); the packets of a tile stand in the order of its COD, which has the marks, the
-/// order, the layers, the precincts and the style that are asked (T.800, A.6.1 and A.6.6); and where its precincts
-/// fit, the limits 5 and 6 are those on its packets alone.
+/// No POC, TLM, PLM, PLT, PPM, PPT or skipped marker is written, and the main header has its CRG and COM segments in their order (T.800, A.7
+/// and A.9);
+/// the packets of a tile stand in the order of its COD, which has the marks, the order, the layers, the
+/// precincts and the style that are asked (T.800, A.6.1 and A.6.6); and where its precincts fit, the limits 5 and 6 are those on its
+/// packets alone.
 pub fn written_headers_are_plain()
     ensures main { (a : HeaderOptions) (s : Stream) → HeadersStand s → entries_joined (stream_written a s).main ≡ [] }
     ensures header { (a : HeaderOptions) (s : Stream) (t : ℕ) → HeadersStand s → MayBeInHeaders a → first_zero a.wanted.precincts s ≡ None → t < length s.tiles

@@ -15,13 +15,13 @@ use Rattle.jx_store.specs.declared.event.Taped.{Taped}
 use Rattle.jx_store.specs.declared.work.Named.{Named}
 use Rattle.jx_store.specs.Order.{numbers}
 use Rattle.jx_store.specs.Setup.{Within}
-use Rattle.jx_workers.specs.Tapes.{AreAsked, answer_of, bounds, size_of, up_to_bad}
+use Rattle.jx_workers.specs.Tapes.{AreAsked, IsTape, answer_of, bounds, size_of, up_to_bad}
 use Rattle.jx_workers.proofs.UpToLemmas.{fine_made, one_bad, one_fine, up_to_at, up_to_few, up_to_take}
 use Rattle.jx_base.proofs.Lists.{all_at, all_from, same_gets}
 use Rattle.jx_codestream.specs.First.{tile_number}
 use Rattle.jx_tier2_writer.specs.Tile.{AreMade, IsMade, first_block}
 use Rattle.jx_plan.specs.Plan.{IsPlan, Plan}
-use Rattle.jx_options.specs.Work.{MayBeWork, Work}
+use Rattle.jx_options.specs.Work.{MayBeWork, Work, most_workers}
 use Rattle.jx_rounds.proofs.FrontLemmas.{blocks_are}
 use Rattle.jx_rounds.proofs.TileLemmas.{get_drop, get_take, made_is, made_later}
 use Rattle.jx_rounds.specs.MadeRounds.{AreMadeAlone, AreUnshared, AreUpTo, IsTapeFrom, TapesOn, entry_of}
@@ -55,6 +55,21 @@ module _ (laws : NumberLaws) where
         | inr past ↦ absurd (omega (arith, past.0, inside))
       ])
 
+-- ---- a run has a worker, and a tape by some of its workers is one by all
+some_workers : (threads : ℕ) → 1 ≤ most_workers threads
+some_workers 0 = omega arith
+some_workers (suc n) = omega arith
+
+pub more_workers : (jobs : List Job) (first threads : ℕ) (work : Work) (entries : List (Taped (Named WrittenBlock))) → threads ≤ most_workers work.threads
+    → IsTape jobs first threads work.window work.most entries → IsTapeFrom jobs first work entries
+more_workers jobs first threads work entries few tape = record {
+  order = tape.order;
+  answers = tape.answers;
+  workers = λ k d lt. omega (arith, tape.workers k d lt, few);
+  within = tape.within;
+  from = tape.from;
+}
+
 -- ---- what one thread makes of jobs is a tape of them, too
 pub alone_is_tape : NumberLaws → (jobs : List Job) (first : ℕ) (work : Work) (entries : List (Taped (Named WrittenBlock))) → AreAsked first jobs → MayBeWork work → AreMadeAlone (up_to_bad jobs) entries → IsTapeFrom jobs first work entries
 alone_is_tape laws jobs first work entries asked may alone =
@@ -63,7 +78,7 @@ alone_is_tape laws jobs first work entries asked may alone =
     record {
       order = order;
       answers = alone.answers;
-      workers = λ k d lt. omega (arith, alone.workers k d lt, may.some_threads);
+      workers = λ k d lt. omega (arith, alone.workers k d lt, some_workers work.threads);
       within = λ k d lt. (omega (arith, alone.seen k d lt), omega (arith, alone.seen k d lt, may.some_window), inl (alone.seen k d lt));
       from = all_from (λ (t : Taped (Named WrittenBlock)). first ≤ t.seen) entries (λ i t at.
           omega (arith, number_at laws number entries first (length (up_to_bad jobs)) i t order at, all_at (λ (x : Taped (Named WrittenBlock)). x.seen ≡ x.number) entries i t alone.seen at));
@@ -239,8 +254,8 @@ tapes_on laws p work first next entries more plan are count is tape so_far =
         order = map-append number tape more ∙ ap (λ (ns : List ℕ). ns ++ map number more) so_far.of.order ∙ ap (λ (ns : List ℕ). numbers 0 (length tape) ++ ns) (here ∙ ap (λ (n : ℕ). numbers n (length entries)) begins)
             ∙ laws.more 0 (length tape) (length entries) ∙ ap (numbers 0) ends;
         few = omega (arith, all, long_is, so_far.long, are.within, plan.all);
-        workers = All-append (λ (t : TapeEntry). t.worker < work.threads) tape more so_far.of.workers
-            (subst (λ (ts : List TapeEntry). All (λ (t : TapeEntry). t.worker < work.threads) ts) (sym is) (All-map (λ (t : TapeEntry). t.worker < work.threads) entry_of entries are.workers));
+        workers = All-append (λ (t : TapeEntry). t.worker < most_workers work.threads) tape more so_far.of.workers
+            (subst (λ (ts : List TapeEntry). All (λ (t : TapeEntry). t.worker < most_workers work.threads) ts) (sym is) (All-map (λ (t : TapeEntry). t.worker < most_workers work.threads) entry_of entries are.workers));
         within = All-append (λ (t : TapeEntry). Within (setup_of work p.blocks) t.seen t.number) tape more so_far.of.within
             (subst (λ (ts : List TapeEntry). All (λ (t : TapeEntry). Within (setup_of work p.blocks) t.seen t.number) ts) (sym is)
             (All-map (λ (t : TapeEntry). Within (setup_of work p.blocks) t.seen t.number) entry_of entries are.seen));

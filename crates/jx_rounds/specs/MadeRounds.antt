@@ -8,7 +8,7 @@ use Rattle.jx_store.specs.declared.work.Named.{Named}
 use Rattle.jx_store.specs.declared.work.Named.TheVariants.{Bad, Short}
 use Rattle.jx_workers.specs.Tapes.{IsTape, answer_of, size_of}
 use Rattle.jx_codestream.specs.First.{tile_number}
-use Rattle.jx_options.specs.Work.{Work}
+use Rattle.jx_options.specs.Work.{Work, most_workers}
 use Rattle.jx_plan.specs.Plan.{Plan}
 use Rattle.jx_tier2_writer.specs.Tile.{AreMade, blocks_in, first_block}
 use Rattle.jx_rounds.specs.Rounds.{EndsRound, HasTape, IsInRound, round_in}
@@ -27,9 +27,9 @@ pub record AreMadeAlone (jobs : List Job) (entries : List (Taped (Named WrittenB
   pub workers : All (λ (t : Taped (Named WrittenBlock)). t.worker ≡ 0) entries
   pub seen : All (λ (t : Taped (Named WrittenBlock)). t.seen ≡ t.number) entries
 
--- the tape of some jobs, by the workers of a run and inside its windows
+-- the tape of some jobs, by as many workers as a run may have and inside its windows
 abbrev pub IsTapeFrom : List Job → ℕ → Work → List (Taped (Named WrittenBlock)) → Type 0
-IsTapeFrom jobs first work entries = IsTape jobs first work.threads work.window work.most entries
+IsTapeFrom jobs first work entries = IsTape jobs first (most_workers work.threads) work.window work.most entries
 
 -- what was made of so many blocks from one on
 pub record AreOfBlocks (p : Plan) (first count : ℕ) (entries : List (Taped (Named WrittenBlock))) : Type 0 where

@@ -14,7 +14,7 @@ use Rattle.jx_marker.specs.Segments.{spelling}
 use Rattle.jx_marker.specs.declared.Segment.TheVariants as segment
 use Rattle.jx_codeblock.specs.Written.{block_asked}
 use Rattle.jx_plan.specs.Plan.{Plan, headers_of}
-use Rattle.jx_options.specs.Work.{Work}
+use Rattle.jx_options.specs.Work.{Work, most_workers}
 use Rattle.jx_codestream.specs.First.{tile_number}
 use Rattle.jx_codestream.specs.Spells.{TilePart, part_bytes}
 use Rattle.jx_tier2_writer.specs.declared.index.PartLength.{PartLength}
@@ -50,7 +50,7 @@ pub record AreAnswers (p : Plan) (work : Work) (first : ℕ) (entries : List (Ta
   pub order : map (λ (t : Taped (Named WrittenBlock)). t.number) entries ≡ numbers first (length entries)
   pub within : first + length entries ≤ length p.jobs
   pub answers : map (λ (t : Taped (Named WrittenBlock)). t.named) entries ≡ map answer_of (take (length entries) (drop first p.jobs))
-  pub workers : All (λ (t : Taped (Named WrittenBlock)). t.worker < work.threads) entries
+  pub workers : All (λ (t : Taped (Named WrittenBlock)). t.worker < most_workers work.threads) entries
   pub seen : All (λ (t : Taped (Named WrittenBlock)). Within (setup_of work p.blocks) t.seen t.number) entries
 
 -- the tape so far: the entries of the blocks below a number

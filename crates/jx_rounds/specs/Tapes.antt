@@ -5,7 +5,7 @@ use Rattle.jx_base.specs.declared.pieces.Block.{Block}
 use Rattle.jx_base.specs.Pieces.{bytes_in}
 use Rattle.jx_store.specs.Order.{numbers}
 use Rattle.jx_store.specs.Setup.{Setup, Within}
-use Rattle.jx_options.specs.Work.{Work}
+use Rattle.jx_options.specs.Work.{Work, most_workers}
 use Rattle.jx_rounds.specs.declared.tape.TapeEntry.{TapeEntry}
 
 -- all blocks as one store would have them: their numbers from 0 on, the bytes of their pieces, and both windows
@@ -16,5 +16,5 @@ setup_of work blocks = record { first = 0; sizes = map (λ (b : Block). bytes_in
 pub record IsTapeOf (work : Work) (blocks : List Block) (tape : List TapeEntry) : Type 0 where
   pub order : map (λ (t : TapeEntry). t.number) tape ≡ numbers 0 (length tape)
   pub few : length tape ≤ length blocks
-  pub workers : All (λ (t : TapeEntry). t.worker < work.threads) tape
+  pub workers : All (λ (t : TapeEntry). t.worker < most_workers work.threads) tape
   pub within : All (λ (t : TapeEntry). Within (setup_of work blocks) t.seen t.number) tape

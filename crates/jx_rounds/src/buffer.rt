@@ -55,7 +55,8 @@ fn write_out<W: ByteWriter>(writer: &mut W, buffer: &mut Vec<u8>) -> Result<(), 
 /// Writes what stands in the buffer where it has enough; after an error, a front of it was written.
 fn write_full<W: ByteWriter>(writer: &mut W, buffer: &mut Vec<u8>) -> Result<(), Halt>
     requires may { W.can_write (W.kept writer.old) }
-    ensures ok { OnOk result (HasTaken (W.written writer.old) (W.written writer.new) buffer.old.items buffer.new.items) }
+    ensures ok { OnOk result (HasTaken (W.written writer.old)
+        (W.written writer.new) buffer.old.items buffer.new.items) }
     ensures front { SomeFront (W.written writer.old) (W.written writer.new) buffer.old.items }
     ensures fault { IfErr result (λ h. IsFault h) }
     ensures cause { IsErrOf result Halt.Failed → Rose (W.faults writer.old) (W.faults writer.new) }
@@ -80,8 +81,10 @@ fn put_piece<W: ByteWriter>(
     requires may { W.can_write (W.kept writer.old) }
     requires part { part < length tile.now }
     requires piece { piece < length (slice_index_or tile.now part []) }
-    ensures ok { OnOk result (HasTaken (W.written writer.old) (W.written writer.new) (buffer.old.items ++ slice_index_or (slice_index_or tile.now part []) piece []) buffer.new.items) }
-    ensures front { SomeFront (W.written writer.old) (W.written writer.new) (buffer.old.items ++ slice_index_or (slice_index_or tile.now part []) piece []) }
+    ensures ok { OnOk result (HasTaken (W.written writer.old) (W.written writer.new)
+        (buffer.old.items ++ slice_index_or (slice_index_or tile.now part []) piece []) buffer.new.items) }
+    ensures front { SomeFront (W.written writer.old) (W.written writer.new)
+        (buffer.old.items ++ slice_index_or (slice_index_or tile.now part []) piece []) }
     ensures fault { IfErr result (λ h. IsFault h) }
     ensures cause { IsErrOf result Halt.Failed → Rose (W.faults writer.old) (W.faults writer.new) }
     ensures rose { W.faults writer.old < W.faults writer.new → IsErrOf result Halt.Failed }
@@ -105,7 +108,8 @@ fn put_pieces<W: ByteWriter>(
     requires may { W.can_write (W.kept writer.old) }
     requires part { part < length tile.now }
     requires empty { buffer.old.items ≡ [] }
-    ensures ok { OnOk result (HasTaken (W.written writer.old) (W.written writer.new) (concat (slice_index_or tile.now part [])) buffer.new.items) }
+    ensures ok { OnOk result (HasTaken (W.written writer.old) (W.written writer.new)
+        (concat (slice_index_or tile.now part [])) buffer.new.items) }
     ensures front { SomeFront (W.written writer.old) (W.written writer.new) (concat (slice_index_or tile.now part [])) }
     ensures fault { IfErr result (λ h. IsFault h) }
     ensures cause { IsErrOf result Halt.Failed → Rose (W.faults writer.old) (W.faults writer.new) }
@@ -132,7 +136,8 @@ fn put_part<W: ByteWriter>(
     requires may { W.can_write (W.kept writer.old) }
     requires part { part < length tile.now }
     requires empty { buffer.old.items ≡ [] }
-    ensures ok { OnOk result (W.written writer.new ≡ followed_by (concat (slice_index_or tile.now part [])) (W.written writer.old)) }
+    ensures ok { OnOk result (W.written writer.new
+        ≡ followed_by (concat (slice_index_or tile.now part [])) (W.written writer.old)) }
     ensures empty { OnOk result (buffer.new.items ≡ []) }
     ensures front { SomeFront (W.written writer.old) (W.written writer.new) (concat (slice_index_or tile.now part [])) }
     ensures fault { IfErr result (λ h. IsFault h) }
@@ -159,7 +164,8 @@ fn put_tile<W: ByteWriter>(
 ) -> Result<(), Halt>
     requires may { W.can_write (W.kept writer.old) }
     requires empty { buffer.old.items ≡ [] }
-    ensures ok { OnOk result (W.written writer.new ≡ followed_by (concat (map concat tile.now)) (W.written writer.old)) }
+    ensures ok { OnOk result (W.written writer.new
+        ≡ followed_by (concat (map concat tile.now)) (W.written writer.old)) }
     ensures empty { OnOk result (buffer.new.items ≡ []) }
     ensures front { SomeFront (W.written writer.old) (W.written writer.new) (concat (map concat tile.now)) }
     ensures fault { IfErr result (λ h. IsFault h) }

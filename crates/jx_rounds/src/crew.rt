@@ -9,7 +9,7 @@ ghost use Rattle.jx_store.specs.declared.work.Named.{Named};
 ghost use Rattle.jx_codeblock.specs.Recoded.{WrittenBlock, is_bad};
 ghost use Rattle.jx_codeblock.specs.declared.job.Job.{Job as job_asked};
 ghost use Rattle.jx_workers.specs.Tapes.{AreAsked, answer_of, size_of, up_to_bad};
-ghost use Rattle.jx_options.specs.Work.{MayBeWork};
+ghost use Rattle.jx_options.specs.Work.{MayBeWork, most_workers};
 ghost use Rattle.jx_rounds.specs.MadeRounds.{AreMadeAlone, AreUnshared, IsTapeFrom};
 ghost use Rattle.jx_base.specs.Limits.{most_blocks, most_bytes};
 
@@ -22,7 +22,7 @@ use jx_store::{Claim, Entry, Named, Taped};
 use jx_workers::{Tape, recode_all};
 use std::alloc::Global;
 use std::sync::Wait;
-use std::thread::Threads;
+use std::thread::{Threads, available_parallelism};
 
 /// What workers are made with: the threads' and waiting's handle, the gate that is told of each block that is coded anew, and how many
 /// there are, inside which windows.
@@ -106,7 +106,8 @@ fn entry_of<'a, G: Gate>(
     job: &'a Job<'a>,
 ) -> Result<Entry<Recoded<'a>>, NoMemory>
     requires { IsAsked job.now.block.now job.now.style job.now.ends }
-    ensures { IfOk result (λ t. t ≡ record { number = job.now.number; worker = 0; seen = job.now.number; named = answer_of job.now }) }
+    ensures { IfOk result
+        (λ t. t ≡ record { number = job.now.number; worker = 0; seen = job.now.number; named = answer_of job.now }) }
 {
     let named = answer_told(alloc, gate, job)?;
     Ok(Taped {
@@ -165,7 +166,24 @@ fn made_alone<'a, G: Gate>(
     Ok(entries)
 }
 
+/// How many threads are started where so many are asked for: as many, or, for 0, as many as the system has free for the process, at most 64 (one
+/// where it doesn't say).
+pub fn threads_for<R: Threads>(rt: &R, wanted: u32) -> u32
+    requires { wanted ≤ 64 }
+    ensures some { (1 ≤ result) × (result ≤ most_workers wanted) }
+    ensures same { 1 ≤ wanted → result ≡ wanted }
+{
+    if wanted > 0 {
+        return wanted;
+    }
+    match available_parallelism(rt) {
+        Ok(free) => free.get().min(64) as u32,
+        Err(_) => 1,
+    }
+}
+
 /// What workers make of jobs.
+#[tactic(auto, using(crate::proofs::TapedLemmas::more_workers))]
 fn made_by_workers<'a, R: Threads + Wait + Sync, G: Gate + Sync>(
     crew: &Crew<'_, R, G>,
     alloc: Global,
@@ -179,12 +197,13 @@ fn made_by_workers<'a, R: Threads + Wait + Sync, G: Gate + Sync>(
     ensures { IfOk result (λ entries. IsTapeFrom jobs.entry.now first crew.now.work entries.items) }
 {
     let work = crew.work;
+    let threads = threads_for(crew.rt, work.threads);
     let Tape { entries } = recode_all(
         crew.rt,
         alloc,
         jobs,
         first,
-        work.threads,
+        threads,
         work.window,
         work.most,
         crew.gate,
@@ -205,7 +224,8 @@ pub fn made_blocks<'a, R: Threads + Wait + Sync, G: Gate + Sync>(
     requires count { first + length jobs.now ≤ most_blocks }
     requires work { MayBeWork crew.now.work }
     ensures tape { IfOk result (λ entries. IsTapeFrom jobs.entry.now first crew.now.work entries.items) }
-    ensures alone { IfOk result (λ entries. AreUnshared jobs.entry.now → AreMadeAlone (up_to_bad jobs.entry.now) entries.items) }
+    ensures alone { IfOk result (λ entries. AreUnshared jobs.entry.now
+        → AreMadeAlone (up_to_bad jobs.entry.now) entries.items) }
 {
     numbers_count_up();
     if is_anew(jobs) && is_light(jobs) {

@@ -48,8 +48,10 @@ fn write_ready<R: Threads + Wait + Sync, G: Gate + Sync, W: ByteWriter>(
     requires fresh { ready.now.held ≡ None → tape.old.items ≡ [] }
     requires full { IfSome ready.now.held (λ _. length tape.old.items ≡ length making.now.blocks) }
     requires buffer { buffer.old.items ≡ [] }
-    ensures ok { IfOk result (λ bytes. HasWhole making.now ready.now.head.items bytes (W.written writer.old) (W.written writer.new)) }
-    ensures err { IfErr result (λ h. IsHalted making.now ready.now.head.items h (W.written writer.old) (W.written writer.new)) }
+    ensures ok { IfOk result (λ bytes. HasWhole making.now ready.now.head.items bytes (W.written writer.old)
+        (W.written writer.new)) }
+    ensures err { IfErr result (λ h. IsHalted making.now ready.now.head.items h (W.written writer.old)
+        (W.written writer.new)) }
     ensures tape { IsTapeOf crew.now.work making.now.blocks tape.new.items }
     ensures whole { OnOk result (length tape.new.items ≡ length making.now.blocks) }
     ensures taped { IfErr result (λ h. IsTapedTo making.now h (length tape.new.items)) }

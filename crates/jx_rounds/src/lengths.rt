@@ -57,7 +57,8 @@ impl Lengths {
 
     /// Puts one more down, of so many bytes.
     fn push(&mut self, tile: u16, size: usize) -> Result<(), NoMemory>
-        ensures { OnOk result (self.new ≡ option_map (λ parts. parts ++ (record { tile = tile; length = size }) ∷ []) self.old) }
+        ensures { OnOk result (self.new ≡ option_map
+            (λ parts. parts ++ (record { tile = tile; length = size }) ∷ []) self.old) }
     {
         if !self.asked {
             return Ok(());

@@ -22,7 +22,7 @@ mod tile;
 mod write;
 mod writer;
 
-pub use crew::Crew;
+pub use crew::{Crew, threads_for};
 pub use file::{write_file, write_memory};
 pub use halt::Halt;
 pub use memory_writer::MemoryWriter;

@@ -27,7 +27,11 @@ impl<'a, 'p> Model for Making<'a, 'p> {
 
     ghost view = { λ m. m.plan.now };
 
-    ghost invariant = { λ m. m.written.now ≡ record { siz = (headers_of m.plan.now).siz; main = (headers_of m.plan.now).main } };
+    ghost invariant = { λ m. m.written.now ≡ record {
+      siz = (headers_of m.plan.now).siz;
+      main =
+          (headers_of m.plan.now).main;
+    } };
 }
 
 impl<'a, 'p> Making<'a, 'p> {

@@ -84,7 +84,8 @@ pub fn held_parts<R: Threads + Wait + Sync, G: Gate + Sync>(
     requires empty { tape.old.items ≡ [] }
     requires buffer { buffer.old.items ≡ [] }
     ensures ok { IfOk result (λ held. AreMeasured making.now held.lengths.items) }
-    ensures held { IfOk result (λ held. (bytes : List ℕ) → ⟦<MemoryWriter as ByteWriter>⟧.written held.parts ≡ Some bytes → IsHeld making.now bytes) }
+    ensures held { IfOk result (λ held. (bytes : List ℕ)
+        → ⟦<MemoryWriter as ByteWriter>⟧.written held.parts ≡ Some bytes → IsHeld making.now bytes) }
     ensures err { IfErr result (λ h. IsUnmeasured making.now h) }
     ensures tape { IsTapeOf crew.now.work making.now.blocks tape.new.items }
     ensures whole { OnOk result (length tape.new.items ≡ length making.now.blocks) }

@@ -101,7 +101,8 @@ impl<'a, 'b> Packed<'a, 'b> {
     pub fn put(&self, part: usize, piece: usize, out: &mut Vec<u8>) -> Result<(), NoMemory>
         requires part { part < length self.now }
         requires piece { piece < length (slice_index_or self.now part []) }
-        ensures ok { OnOk result (out.new.items ≡ out.old.items ++ slice_index_or (slice_index_or self.now part []) piece []) }
+        ensures ok { OnOk result (out.new.items ≡ out.old.items
+            ++ slice_index_or (slice_index_or self.now part []) piece []) }
     {
         match &self.form {
             Form::Laid(tile) => tile.put(part, piece, out),

@@ -109,7 +109,8 @@ fn round_blocks<'a, R: Threads + Wait + Sync, G: Gate + Sync>(
     requires within { first + count ≤ length making.now.jobs }
     requires few { first + count ≤ most_blocks }
     requires work { MayBeWork crew.now.work }
-    ensures tape { IfOk result (λ entries. TapesOn making.now crew.now.work first (first + length entries.items) (map entry_of entries.items)) }
+    ensures tape { IfOk result (λ entries. TapesOn making.now crew.now.work first (first + length entries.items)
+        (map entry_of entries.items)) }
     ensures of { IfOk result (λ entries. AreUpTo making.now first count entries.items) }
 {
     numbers_count_up();
@@ -129,7 +130,9 @@ fn push_packed<'a, 'b>(
     requires tile { tile < tile_number making.now.stream.siz }
     requires entries { AreUpTo making.now (first_block making.now tile) (blocks_in making.now tile) entries.now }
     ensures whole { OnOk result ((length entries.now ≡ blocks_in making.now tile) × AreMade entries.now) }
-    ensures lead { OnOk result ((first : ℕ) → first + length tiles.old.items ≡ tile → LeadOn making.now first tile (sent_from first tiles.old.items) → LeadOn making.now first (tile + 1) (sent_from first tiles.new.items)) }
+    ensures lead { OnOk result ((first : ℕ) → first + length tiles.old.items ≡ tile
+        → LeadOn making.now first tile (sent_from first tiles.old.items)
+        → LeadOn making.now first (tile + 1) (sent_from first tiles.new.items)) }
     ensures count { OnOk result (length tiles.new.items ≡ length tiles.old.items + 1) }
     ensures unmade { IfErr result (λ h. IsUnmadeTile making.now tile h) }
 {
@@ -222,7 +225,8 @@ pub fn made_round<'a, R: Threads + Wait + Sync, G: Gate + Sync>(
     ensures later { IfOk result (λ r. tile < r.extent.tile) }
     ensures place { IfOk result (λ r. IsPlace making.now r.extent.tile r.extent.block) }
     ensures ends { IfOk result (λ r. EndsRound making.now r.extent.tile) }
-    ensures tape { IfOk result (λ r. TapesOn making.now crew.now.work block (block + length r.entries.items) (map entry_of r.entries.items)) }
+    ensures tape { IfOk result (λ r. TapesOn making.now crew.now.work block (block + length r.entries.items)
+        (map entry_of r.entries.items)) }
 {
     let extent = extent_of(alloc, making, tile, block)?;
     match round_blocks(crew, alloc, making, block, extent.blocks) {

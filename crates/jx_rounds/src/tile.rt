@@ -71,8 +71,10 @@ fn pack_made<'a, 'b>(
     requires tile { tile < tile_number making.now.stream.siz }
     requires made { AreMade entries.now }
     requires values { AreValuesOf making.now tile (made_in entries.now) }
-    ensures parts { IfOk result (λ out. (blocks : List Block) → StandIn blocks making.now tile (made_in entries.now) → IsTile making.now blocks tile most_of_part (map concat out)) }
-    ensures long { result ≡ Err AssembleFault.TooLong → (blocks : List Block) → StandIn blocks making.now tile (made_in entries.now) → IsTooLong making.now blocks tile most_of_part }
+    ensures parts { IfOk result (λ out. (blocks : List Block) → StandIn blocks making.now tile (made_in entries.now)
+        → IsTile making.now blocks tile most_of_part (map concat out)) }
+    ensures long { result ≡ Err AssembleFault.TooLong → (blocks : List Block)
+        → StandIn blocks making.now tile (made_in entries.now) → IsTooLong making.now blocks tile most_of_part }
 {
     match pack_tile(
         alloc,

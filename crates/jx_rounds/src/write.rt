@@ -73,7 +73,8 @@ fn mark_after(
 ) -> Option<Mark>
     requires few { mark.tile + length tiles.now < 65536 }
     ensures lengths { OnSome result (lengths.new ≡ lengths_behind (sent_from mark.tile tiles.now) lengths.old) }
-    ensures next { IfSome result (λ next. (next.tile ≡ round.now.extent.tile) × (next.block ≡ round.now.extent.block) × (next.bytes ≡ mark.bytes + length (concat (parts_of tiles.now)))) }
+    ensures next { IfSome result (λ next. (next.tile ≡ round.now.extent.tile) × (next.block ≡ round.now.extent.block)
+        × (next.bytes ≡ mark.bytes + length (concat (parts_of tiles.now)))) }
     ensures room { OnSome result (vec_len tape.new + length round.now.entries.items ≤ vec_capacity tape.new) }
     ensures kept { tape.new.items ≡ tape.old.items }
 {
@@ -132,7 +133,8 @@ fn write_round<R: Threads + Wait + Sync, G: Gate + Sync, W: ByteWriter>(
     requires work { MayBeWork crew.now.work }
     requires tape { HasTape making.now crew.now.work mark.block tape.old.items }
     requires buffer { buffer.old.items ≡ [] }
-    ensures ok { IfOk result (λ next. HasRounds making.now mark.tile next.tile mark.bytes next.bytes (W.written writer.old) (W.written writer.new) lengths.old lengths.new) }
+    ensures ok { IfOk result (λ next. HasRounds making.now mark.tile next.tile mark.bytes next.bytes
+        (W.written writer.old) (W.written writer.new) lengths.old lengths.new) }
     ensures later { IfOk result (λ next. mark.tile < next.tile) }
     ensures place { IfOk result (λ next. IsPlace making.now next.tile next.block) }
     ensures ends { IfOk result (λ next. EndsRound making.now next.tile) }
@@ -180,7 +182,8 @@ pub fn write_tiles<R: Threads + Wait + Sync, G: Gate + Sync, W: ByteWriter>(
     requires work { MayBeWork crew.now.work }
     requires empty { tape.old.items ≡ [] }
     requires buffer { buffer.old.items ≡ [] }
-    ensures ok { IfOk result (λ bytes. HasRounds making.now 0 (tile_number making.now.stream.siz) header bytes (W.written writer.old) (W.written writer.new) lengths.old lengths.new) }
+    ensures ok { IfOk result (λ bytes. HasRounds making.now 0 (tile_number making.now.stream.siz) header bytes
+        (W.written writer.old) (W.written writer.new) lengths.old lengths.new) }
     ensures err { IfErr result (λ h. IsUnwritten making.now 0 h (W.written writer.old) (W.written writer.new)) }
     ensures tape { IsTapeOf crew.now.work making.now.blocks tape.new.items }
     ensures whole { OnOk result (length tape.new.items ≡ length making.now.blocks) }
@@ -210,8 +213,12 @@ pub fn write_tiles<R: Threads + Wait + Sync, G: Gate + Sync, W: ByteWriter>(
 /// Writes EOC after `before` bytes.
 fn write_end<W: ByteWriter>(writer: &mut W, before: usize) -> Result<usize, Halt>
     requires may { W.can_write (W.kept writer.old) }
-    ensures ok { IfOk result (λ bytes. (p : Plan) (head : List ℕ) (first : Option (List ℕ)) → HasFront p head (tile_number p.stream.siz) before first (W.written writer.old) → HasWhole p head bytes first (W.written writer.new)) }
-    ensures err { IfErr result (λ h. (p : Plan) (head : List ℕ) (first : Option (List ℕ)) → HasFront p head (tile_number p.stream.siz) before first (W.written writer.old) → IsHalted p head h first (W.written writer.new)) }
+    ensures ok { IfOk result (λ bytes. (p : Plan) (head : List ℕ) (first : Option (List ℕ))
+        → HasFront p head (tile_number p.stream.siz) before first (W.written writer.old)
+        → HasWhole p head bytes first (W.written writer.new)) }
+    ensures err { IfErr result (λ h. (p : Plan) (head : List ℕ) (first : Option (List ℕ))
+        → HasFront p head (tile_number p.stream.siz) before first (W.written writer.old)
+        → IsHalted p head h first (W.written writer.new)) }
     ensures fault { IfErr result (λ h. IsFault h) }
     ensures cause { IsErrOf result Halt.Failed → Rose (W.faults writer.old) (W.faults writer.new) }
     ensures rose { W.faults writer.old < W.faults writer.new → IsErrOf result Halt.Failed }
@@ -242,7 +249,8 @@ fn write_from_head<R: Threads + Wait + Sync, G: Gate + Sync, W: ByteWriter>(
     requires work { MayBeWork crew.now.work }
     requires empty { tape.old.items ≡ [] }
     requires buffer { buffer.old.items ≡ [] }
-    ensures ok { IfOk result (λ bytes. HasWhole making.now head.now bytes (W.written writer.old) (W.written writer.new)) }
+    ensures ok { IfOk result (λ bytes. HasWhole making.now head.now bytes (W.written writer.old)
+        (W.written writer.new)) }
     ensures err { IfErr result (λ h. IsHalted making.now head.now h (W.written writer.old) (W.written writer.new)) }
     ensures tape { IsTapeOf crew.now.work making.now.blocks tape.new.items }
     ensures whole { OnOk result (length tape.new.items ≡ length making.now.blocks) }
@@ -289,7 +297,8 @@ pub fn write_codestream<R: Threads + Wait + Sync, G: Gate + Sync, W: ByteWriter>
     requires work { MayBeWork crew.now.work }
     requires empty { tape.old.items ≡ [] }
     requires buffer { buffer.old.items ≡ [] }
-    ensures ok { IfOk result (λ bytes. HasWhole making.now head.now bytes (W.written writer.old) (W.written writer.new)) }
+    ensures ok { IfOk result (λ bytes. HasWhole making.now head.now bytes (W.written writer.old)
+        (W.written writer.new)) }
     ensures err { IfErr result (λ h. IsHalted making.now head.now h (W.written writer.old) (W.written writer.new)) }
     ensures tape { IsTapeOf crew.now.work making.now.blocks tape.new.items }
     ensures whole { OnOk result (length tape.new.items ≡ length making.now.blocks) }
@@ -315,8 +324,12 @@ pub fn write_codestream<R: Threads + Wait + Sync, G: Gate + Sync, W: ByteWriter>
 /// Writes what stands behind a head of so many bytes, and EOC.
 fn write_behind<W: ByteWriter>(writer: &mut W, head: usize, held: &[u8]) -> Result<usize, Halt>
     requires may { W.can_write (W.kept writer.old) }
-    ensures ok { IfOk result (λ bytes. (p : Plan) (first : Option (List ℕ)) (before : List ℕ) → head ≡ length before → IsHeld p held.now → W.written writer.old ≡ followed_by before first → HasWhole p before bytes first (W.written writer.new)) }
-    ensures err { OnErr result ((p : Plan) (first : Option (List ℕ)) (before : List ℕ) → head ≡ length before → IsHeld p held.now → W.written writer.old ≡ followed_by before first → IsHaltedByFault p before first (W.written writer.new)) }
+    ensures ok { IfOk result (λ bytes. (p : Plan) (first : Option (List ℕ)) (before : List ℕ) → head ≡ length before
+        → IsHeld p held.now → W.written writer.old ≡ followed_by before first
+        → HasWhole p before bytes first (W.written writer.new)) }
+    ensures err { OnErr result ((p : Plan) (first : Option (List ℕ)) (before : List ℕ) → head ≡ length before
+        → IsHeld p held.now → W.written writer.old ≡ followed_by before first
+        → IsHaltedByFault p before first (W.written writer.new)) }
     ensures fault { IfErr result (λ h. IsFault h) }
     ensures cause { IsErrOf result Halt.Failed → Rose (W.faults writer.old) (W.faults writer.new) }
     ensures rose { W.faults writer.old < W.faults writer.new → IsErrOf result Halt.Failed }
@@ -336,8 +349,10 @@ fn write_behind<W: ByteWriter>(writer: &mut W, head: usize, held: &[u8]) -> Resu
 /// `Err` what was written is a front of it.
 pub fn write_held<W: ByteWriter>(writer: &mut W, head: &[u8], held: &[u8]) -> Result<usize, Halt>
     requires may { W.can_write (W.kept writer.old) }
-    ensures ok { IfOk result (λ bytes. (p : Plan) → IsHeld p held.now → HasWhole p head.now bytes (W.written writer.old) (W.written writer.new)) }
-    ensures err { OnErr result ((p : Plan) → IsHeld p held.now → IsHaltedByFault p head.now (W.written writer.old) (W.written writer.new)) }
+    ensures ok { IfOk result (λ bytes. (p : Plan) → IsHeld p held.now
+        → HasWhole p head.now bytes (W.written writer.old) (W.written writer.new)) }
+    ensures err { OnErr result ((p : Plan) → IsHeld p held.now
+        → IsHaltedByFault p head.now (W.written writer.old) (W.written writer.new)) }
     ensures fault { IfErr result (λ h. IsFault h) }
     ensures cause { IsErrOf result Halt.Failed → Rose (W.faults writer.old) (W.faults writer.new) }
     ensures rose { W.faults writer.old < W.faults writer.new → IsErrOf result Halt.Failed }

@@ -20,7 +20,8 @@ fn compare_step(a: &Side<'_>, b: &Side<'_>, name: BandName, same: bool) -> Optio
     requires beside { AreBeside a.now b.now }
     requires band { HasBandOf a.now name }
     requires same { IsTrue same → SameHeaders a.now.stream b.now.stream a.now.tile name.comp }
-    ensures { result ≡ find (differs (meaning_at a.now) (meaning_at b.now)) (step_items a.now.tile name.comp name.res name.band) }
+    ensures { result ≡ find (differs (meaning_at a.now) (meaning_at b.now))
+        (step_items a.now.tile name.comp name.res name.band) }
 {
     if same {
         return None;
@@ -84,7 +85,8 @@ fn compare_resolution<R: Threads + Sync>(
     requires aligned { AreAligned a.now b.now comp }
     requires res { HasResolution (geometry_at a.now) comp res }
     requires same { IsTrue same → SameHeaders a.now.stream b.now.stream a.now.tile comp }
-    ensures { IfOk result (λ found. found ≡ find (differs (meaning_at a.now) (meaning_at b.now)) (resolution_items (geometry_at a.now) comp res)) }
+    ensures { IfOk result (λ found. found ≡ find (differs (meaning_at a.now) (meaning_at b.now))
+        (resolution_items (geometry_at a.now) comp res)) }
 {
     let bands = Band::of_resolution(res);
     for band in bands {
@@ -117,7 +119,8 @@ fn compare_resolutions<R: Threads + Sync>(
     requires levels { levels ≡ (shape_of (geometry_at a.now) comp).levels }
     requires few { levels ≤ 32 }
     requires same { IsTrue same → SameHeaders a.now.stream b.now.stream a.now.tile comp }
-    ensures { IfOk result (λ found. found ≡ find (differs (meaning_at a.now) (meaning_at b.now)) (joined (resolution_items (geometry_at a.now) comp) 0 (levels + 1))) }
+    ensures { IfOk result (λ found. found ≡ find (differs (meaning_at a.now) (meaning_at b.now))
+        (joined (resolution_items (geometry_at a.now) comp) 0 (levels + 1))) }
 {
     for res in 0..levels + 1 {
         if let Some(spot) = compare_resolution(rt, alloc, threads, a, b, comp, res, same)? {
@@ -145,7 +148,8 @@ pub(crate) fn compare_component<R: Threads + Sync>(
     requires beside { AreBeside a.now b.now }
     requires comp { comp < length a.now.stream.siz.comps }
     requires same { IsTrue same → SameHeaders a.now.stream b.now.stream a.now.tile comp }
-    ensures { IfOk result (λ found. found ≡ find (differs (meaning_at a.now) (meaning_at b.now)) (component_items (geometry_at a.now) comp)) }
+    ensures { IfOk result (λ found. found ≡ find (differs (meaning_at a.now) (meaning_at b.now))
+        (component_items (geometry_at a.now) comp)) }
 {
     if let Some(spot) = compare_coding(a, b, comp, same) {
         return Ok(Some(spot));

@@ -16,7 +16,8 @@ use std::alloc::Global;
 
 /// The spot of a coefficient.
 fn spot_of(tile: u16, name: BandName, x: u32, y: u32) -> Spot
-    ensures { result ≡ record { field = field.Coef; tile = tile; comp = name.comp; res = name.res; band = name.band; x = x; y = y } }
+    ensures { result
+        ≡ record { field = field.Coef; tile = tile; comp = name.comp; res = name.res; band = name.band; x = x; y = y } }
 {
     Spot {
         field: Field::Coef,
@@ -33,7 +34,8 @@ fn spot_of(tile: u16, name: BandName, x: u32, y: u32) -> Spot
 #[tactic(auto, using(crate::proofs::StepLemmas::next_across, crate::proofs::StepLemmas::next_down))]
 fn place_after(rect: Rect, x: u32, y: u32) -> (u32, u32)
     requires { InRect rect x y }
-    ensures { (n : ℕ) → x ≡ column_at rect n → y ≡ row_at rect n → (result.0 ≡ column_at rect (n + 1)) × (result.1 ≡ row_at rect (n + 1)) }
+    ensures { (n : ℕ) → x ≡ column_at rect n → y ≡ row_at rect n
+        → (result.0 ≡ column_at rect (n + 1)) × (result.1 ≡ row_at rect (n + 1)) }
 {
     if x + 1 < rect.x.high {
         return (x + 1, y);
@@ -53,9 +55,12 @@ fn compare_places<'a>(
     requires aligned { AreAligned a.now b.now name.comp }
     requires band { HasBandOf a.now name }
     requires block { Covers a.now name block.now }
-    requires inside { (x y : ℕ) → InRect block.now.rect x y → InRect (band_in (geometry_at a.now) name.comp name.res name.band) x y }
+    requires inside { (x y : ℕ) → InRect block.now.rect x y
+        → InRect (band_in (geometry_at a.now) name.comp name.res name.band) x y }
     requires shelf { AreOnShelf b.now name shelf.old }
-    ensures first { IfOk result (λ found. found ≡ find (differs (meaning_at a.now) (meaning_at b.now)) (coef_items a.now.tile name.comp name.res name.band block.now.rect)) }
+    ensures first { IfOk result (λ found. found
+        ≡ find (differs (meaning_at a.now) (meaning_at b.now))
+        (coef_items a.now.tile name.comp name.res name.band block.now.rect)) }
     ensures shelf { OnOk result (AreOnShelf b.now name shelf.new) }
 {
     let rect = block.rect();
@@ -106,7 +111,9 @@ pub(crate) fn compare_block<'a>(
     requires band { HasBandOf a.now name }
     requires index { index < size_of (blocks_in (geometry_at a.now) name.comp name.res name.band) }
     requires shelf { AreOnShelf b.now name shelf.old }
-    ensures first { IfOk result (λ found. found ≡ find (differs (meaning_at a.now) (meaning_at b.now)) (block_items (geometry_at a.now) name.comp name.res name.band index)) }
+    ensures first { IfOk result (λ found. found
+        ≡ find (differs (meaning_at a.now) (meaning_at b.now))
+        (block_items (geometry_at a.now) name.comp name.res name.band index)) }
     ensures shelf { OnOk result (AreOnShelf b.now name shelf.new) }
 {
     let block = a.block(name, index);

@@ -53,7 +53,9 @@ pub(crate) fn compare_between<'a>(
     requires band { HasBandOf a.now name }
     requires high { high ≤ size_of (blocks_in (geometry_at a.now) name.comp name.res name.band) }
     requires shelf { AreOnShelf b.now name shelf.old }
-    ensures first { IfOk result (λ found. found ≡ find (differs (meaning_at a.now) (meaning_at b.now)) (joined (block_items (geometry_at a.now) name.comp name.res name.band) low high)) }
+    ensures first { IfOk result (λ found. found
+        ≡ find (differs (meaning_at a.now) (meaning_at b.now))
+        (joined (block_items (geometry_at a.now) name.comp name.res name.band) low high)) }
     ensures shelf { OnOk result (AreOnShelf b.now name shelf.new) }
 {
     for index in low..high {
@@ -93,7 +95,8 @@ fn compare_patch<'a>(
     requires high { patch.high ≤ walk.high }
     requires shelf { AreOnShelf b.now name shelf.old }
     ensures first { IfOk result (λ hit. IsFirstRow (differs (meaning_at a.now) (meaning_at b.now))
-        (row_items (block_items (geometry_at a.now) name.comp name.res name.band) walk.wide patch.left patch.right) patch.low patch.high hit) }
+        (row_items (block_items
+        (geometry_at a.now) name.comp name.res name.band) walk.wide patch.left patch.right) patch.low patch.high hit) }
     ensures shelf { OnOk result (AreOnShelf b.now name shelf.new) }
 {
     for row in patch.low..patch.high {
@@ -123,9 +126,12 @@ fn best_after<'a>(
     requires columns { (rows.left ≤ rows.right) × (rows.right ≤ walk.wide) }
     requires high { rows.high ≤ walk.high }
     requires shelf { AreOnShelf b.now name shelf.old }
-    requires best { IsBest (differs (meaning_at a.now) (meaning_at b.now)) (row_items (block_items (geometry_at a.now) name.comp name.res name.band) walk.wide 0 rows.left) rows.low rows.high best }
+    requires best { IsBest (differs (meaning_at a.now) (meaning_at b.now))
+        (row_items (block_items
+        (geometry_at a.now) name.comp name.res name.band) walk.wide 0 rows.left) rows.low rows.high best }
     ensures best { IfOk result (λ after. IsBest (differs (meaning_at a.now) (meaning_at b.now))
-        (row_items (block_items (geometry_at a.now) name.comp name.res name.band) walk.wide 0 rows.right) rows.low rows.high after) }
+        (row_items (block_items
+        (geometry_at a.now) name.comp name.res name.band) walk.wide 0 rows.right) rows.low rows.high after) }
     ensures shelf { OnOk result (AreOnShelf b.now name shelf.new) }
 {
     let patch = Patch {
@@ -178,7 +184,8 @@ fn compare_cells(
     requires low { low ≤ high }
     requires high { high ≤ walk.high }
     ensures { IfOk result (λ found. found ≡ find (differs (meaning_at a.now) (meaning_at b.now))
-        (joined (row_items (block_items (geometry_at a.now) name.comp name.res name.band) walk.wide 0 walk.wide) low high)) }
+        (joined (row_items
+        (block_items (geometry_at a.now) name.comp name.res name.band) walk.wide 0 walk.wide) low high)) }
 {
     let mut shelf = Shelf::new(alloc, b.in_cells(name, a));
     let mut best = Best {
@@ -219,7 +226,8 @@ pub(crate) fn compare_rows(
     requires walk { IsWalk (blocks_in (geometry_at a.now) name.comp name.res name.band) walk }
     requires high { high ≤ walk.high }
     ensures { IfOk result (λ found. found ≡ find (differs (meaning_at a.now) (meaning_at b.now))
-        (joined (row_items (block_items (geometry_at a.now) name.comp name.res name.band) walk.wide 0 walk.wide) low high)) }
+        (joined (row_items
+        (block_items (geometry_at a.now) name.comp name.res name.band) walk.wide 0 walk.wide) low high)) }
 {
     let mut row = low;
     while row < high {

@@ -24,7 +24,8 @@ fn comp_named(segment: &Segment) -> Option<u16>
 
 /// Marks the component that a segment names.
 fn mark_named(segment: &Segment, marks: &mut [bool])
-    ensures { (c : ℕ) → slice_get marks.new c ≡ Some false → (slice_get marks.old c ≡ Some false) × (is_comp c (comp_named segment.now) ≡ false) }
+    ensures { (c : ℕ) → slice_get marks.new c ≡ Some false
+        → (slice_get marks.old c ≡ Some false) × (is_comp c (comp_named segment.now) ≡ false) }
 {
     let Some(comp) = comp_named(segment) else {
         return;
@@ -36,7 +37,8 @@ fn mark_named(segment: &Segment, marks: &mut [bool])
 
 /// Marks the components that the segments of a header name.
 fn mark_header(header: &[Segment], marks: &mut [bool])
-    ensures { (c : ℕ) → slice_get marks.new c ≡ Some false → (slice_get marks.old c ≡ Some false) × (has_named c header.now ≡ false) }
+    ensures { (c : ℕ) → slice_get marks.new c ≡ Some false
+        → (slice_get marks.old c ≡ Some false) × (has_named c header.now ≡ false) }
 {
     for segment in header {
         mark_named(segment, marks);
@@ -55,7 +57,8 @@ pub(crate) fn changed_comps(
     b: &Stream,
     tile: u16,
 ) -> Result<Vec<bool>, NoMemory>
-    ensures { IfOk result (λ changed. (c : ℕ) → slice_get changed.items c ≡ Some false → IsUnchanged a.now b.now tile c) }
+    ensures { IfOk result (λ changed. (c : ℕ) → slice_get changed.items c ≡ Some false
+        → IsUnchanged a.now b.now tile c) }
 {
     if !are_as_before(a, b, false, tile) {
         return Ok(Vec::new(alloc));

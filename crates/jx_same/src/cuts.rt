@@ -58,7 +58,8 @@ fn answer_in(answer: &Result<Option<Spot>, NoMemory>) -> Result<Option<Spot>, No
 pub(crate) fn first_found(
     answers: &[Result<Option<Spot>, NoMemory>],
 ) -> Result<Option<Spot>, NoMemory>
-    ensures { (p : Spot → Bool) → (f : ℕ → List Spot) → AreFirsts p f answers.now → IfOk result (λ found. found ≡ find p (joined f 0 (length answers.now))) }
+    ensures { (p : Spot → Bool) → (f : ℕ → List Spot) → AreFirsts p f answers.now
+        → IfOk result (λ found. found ≡ find p (joined f 0 (length answers.now))) }
 {
     for answer in answers {
         if let Some(spot) = answer_in(answer)? {

@@ -76,7 +76,8 @@ fn compare_runs<'a, R: Threads + Sync>(
     requires high { cut.high ≤ tile_number a.stream.now.siz }
     requires few { cut.high < 2 ^ 16 }
     requires all { cut.high ≤ cut.low + cut.runs * cut.size }
-    ensures { IfOk result (λ found. found ≡ find (differs (meaning_in a.entry) (meaning_in b.entry)) (joined (tile_items a.entry.stream.now) cut.low cut.high)) }
+    ensures { IfOk result (λ found. found ≡ find (differs (meaning_in a.entry) (meaning_in b.entry))
+        (joined (tile_items a.entry.stream.now) cut.low cut.high)) }
 {
     let answers = thread::map_indices(
         rt,
@@ -93,7 +94,8 @@ fn compare_runs<'a, R: Threads + Sync>(
             requires high { cut.high ≤ tile_number a.stream.now.siz }
             requires few { cut.high < 2 ^ 16 }
             ensures { IfOk result (λ found. found ≡ find (differs (meaning_in a.entry) (meaning_in b.entry))
-                (joined (tile_items a.entry.stream.now) (cut_at cut.low cut.size cut.high run) (cut_at cut.low cut.size cut.high (run + 1)))) }
+                (joined (tile_items a.entry.stream.now) (cut_at cut.low cut.size cut.high run)
+                (cut_at cut.low cut.size cut.high (run + 1)))) }
         {
             // It is asked for in the contract alone.
             let _ = &cut.runs;
@@ -129,7 +131,8 @@ fn compare_rounds<'a, R: Threads + Sync>(
     requires main_b { main_b.now ≡ record { siz = b.stream.now.siz; main = b.stream.now.main } }
     requires siz { (meaning_in a).siz ≡ (meaning_in b).siz }
     requires mains { IsTrue mains → sayings true a.stream.now.main ≡ sayings true b.stream.now.main }
-    ensures { IfOk result (λ found. found ≡ find (differs (meaning_in a.entry) (meaning_in b.entry)) (joined (tile_items a.entry.stream.now) 0 (tile_number a.entry.stream.now.siz))) }
+    ensures { IfOk result (λ found. found ≡ find (differs (meaning_in a.entry) (meaning_in b.entry))
+        (joined (tile_items a.entry.stream.now) 0 (tile_number a.entry.stream.now.siz))) }
 {
     let tiles = u32::from(a.stream.tile_count());
     let share = share_of(&a, tiles);
@@ -160,7 +163,8 @@ fn compare_all<'a, R: Threads + Sync>(
     requires main_a { main_a.now ≡ record { siz = a.stream.now.siz; main = a.stream.now.main } }
     requires main_b { main_b.now ≡ record { siz = b.stream.now.siz; main = b.stream.now.main } }
     requires siz { (meaning_in a).siz ≡ (meaning_in b).siz }
-    ensures { IfOk result (λ found. found ≡ find (differs (meaning_in a.entry) (meaning_in b.entry)) (joined (tile_items a.entry.stream.now) 0 (tile_number a.entry.stream.now.siz))) }
+    ensures { IfOk result (λ found. found ≡ find (differs (meaning_in a.entry) (meaning_in b.entry))
+        (joined (tile_items a.entry.stream.now) 0 (tile_number a.entry.stream.now.siz))) }
 {
     let mains = are_mains_alike(&a, &b);
     let high = a.stream.tile_count();
@@ -192,7 +196,8 @@ pub(crate) fn compare_tiles<R: Threads + Sync>(
     requires a { IsInput a }
     requires b { IsInput b }
     requires siz { (meaning_in a).siz ≡ (meaning_in b).siz }
-    ensures { IfOk result (λ found. found ≡ find (differs (meaning_in a.entry) (meaning_in b.entry)) (joined (tile_items a.entry.stream.now) 0 (tile_number a.entry.stream.now.siz))) }
+    ensures { IfOk result (λ found. found ≡ find (differs (meaning_in a.entry) (meaning_in b.entry))
+        (joined (tile_items a.entry.stream.now) 0 (tile_number a.entry.stream.now.siz))) }
 {
     let main_a = a.stream.main_view(alloc)?;
     let main_b = b.stream.main_view(alloc)?;

@@ -53,7 +53,8 @@ fn compare_run(
     requires walk { IsWalk (blocks_in (geometry_at a.now) name.comp name.res name.band) walk }
     requires high { high ≤ unit_count walk.by_rows walk }
     ensures { IfOk result (λ found. found ≡ find (differs (meaning_at a.now) (meaning_at b.now))
-        (joined (unit_items walk.by_rows (block_items (geometry_at a.now) name.comp name.res name.band) walk.wide) low high)) }
+        (joined (unit_items walk.by_rows (block_items
+        (geometry_at a.now) name.comp name.res name.band) walk.wide) low high)) }
 {
     if walk.by_rows {
         return compare_rows(alloc, a, b, name, walk, low, high);
@@ -79,7 +80,8 @@ fn compare_runs<R: Threads + Sync>(
     requires high { cut.high ≤ unit_count walk.by_rows walk }
     requires all { cut.high ≤ cut.low + cut.runs * cut.size }
     ensures { IfOk result (λ found. found ≡ find (differs (meaning_at a.now) (meaning_at b.now))
-        (joined (unit_items walk.by_rows (block_items (geometry_at a.now) name.comp name.res name.band) walk.wide) cut.low cut.high)) }
+        (joined (unit_items walk.by_rows (block_items
+        (geometry_at a.now) name.comp name.res name.band) walk.wide) cut.low cut.high)) }
 {
     let answers = thread::map_indices(
         rt,
@@ -92,7 +94,8 @@ fn compare_runs<R: Threads + Sync>(
             requires walk { IsWalk (blocks_in (geometry_at a.now) name.comp name.res name.band) walk }
             requires high { cut.high ≤ unit_count walk.by_rows walk }
             ensures { IfOk result (λ found. found ≡ find (differs (meaning_at a.entry.now) (meaning_at b.entry.now))
-                (joined (unit_items walk.by_rows (block_items (geometry_at a.entry.now) name.comp name.res name.band) walk.wide)
+                (joined (unit_items walk.by_rows (block_items
+                (geometry_at a.entry.now) name.comp name.res name.band) walk.wide)
                 (cut_at cut.low cut.size cut.high run) (cut_at cut.low cut.size cut.high (run + 1)))) }
         {
             // It is asked for in the contract alone.
@@ -197,7 +200,8 @@ pub(crate) fn compare_blocks<R: Threads + Sync>(
     requires aligned { AreAligned a.now b.now name.comp }
     requires band { HasBandOf a.now name }
     ensures { IfOk result (λ found. found ≡ find (differs (meaning_at a.now) (meaning_at b.now))
-        (joined (block_items (geometry_at a.now) name.comp name.res name.band) 0 (size_of (blocks_in (geometry_at a.now) name.comp name.res name.band)))) }
+        (joined (block_items (geometry_at a.now) name.comp name.res name.band) 0
+        (size_of (blocks_in (geometry_at a.now) name.comp name.res name.band)))) }
 {
     let walk = a.walk(name, b);
     let units = unit_count(walk);

@@ -60,7 +60,8 @@ fn said_of(segment: &Segment) -> Said
 
 /// What a segment says of quantization.
 fn quant_of(segment: &Segment) -> Option<&Quant>
-    ensures { MatchOption result (quant_in (Some segment.now) ≡ None) (λ quant. quant_in (Some segment.now) ≡ Some quant.now) }
+    ensures { MatchOption result (quant_in (Some segment.now) ≡ None)
+        (λ quant. quant_in (Some segment.now) ≡ Some quant.now) }
 {
     match segment {
         Segment::Qcd(quant) => Some(quant),

@@ -60,7 +60,8 @@ fn put<'a>(
     hand: Decoded<'a>,
 ) -> Result<(), NoMemory>
     requires { at < 2 ^ 32 }
-    ensures { OnOk result ((i : ℕ) (b : Block) → slice_get slots.new.items i ≡ Some (Some b) → (slice_get slots.old.items i ≡ Some (Some b)) ⊎ (b ≡ hand.entry)) }
+    ensures { OnOk result ((i : ℕ) (b : Block) → slice_get slots.new.items i ≡ Some (Some b)
+        → (slice_get slots.old.items i ≡ Some (Some b)) ⊎ (b ≡ hand.entry)) }
 {
     for _slot in slots.len()..at + 1 {
         slots.push(None)?;

@@ -156,7 +156,9 @@ impl<'a> Side<'a> {
         requires input { IsInput input }
         requires main { main.now ≡ record { siz = input.stream.now.siz; main = input.stream.now.main } }
         requires tile { tile < tile_number input.stream.now.siz }
-        ensures { IfOk result (λ side. side ≡ record { stream = input.entry.stream.now; blocks = input.entry.blocks.now; tile = tile }) }
+        ensures { IfOk result
+            (λ side. side
+            ≡ record { stream = input.entry.stream.now; blocks = input.entry.blocks.now; tile = tile }) }
     {
         let frame = TileFrame::new(alloc, input.stream, main, tile)?;
         Ok(Side {

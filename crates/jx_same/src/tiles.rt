@@ -98,7 +98,8 @@ fn changed_unless(
     after: bool,
 ) -> Result<Vec<bool>, NoMemory>
     requires { IsTrue after → AreSameHeaders a.now.stream.now b.now.stream.now (tile - 1) }
-    ensures { IfOk result (λ changed. (c : ℕ) → c < length a.now.stream.now.siz.comps → slice_get changed.items c ≡ Some false
+    ensures { IfOk result (λ changed. (c : ℕ) → c < length a.now.stream.now.siz.comps
+        → slice_get changed.items c ≡ Some false
         → SameHeaders a.now.stream.now b.now.stream.now tile c) }
 {
     if known {
@@ -142,7 +143,8 @@ fn is_known(a: &Input<'_>, b: &Input<'_>, tile: u16, mains: bool, shared: bool, 
 fn is_same(a: &Side<'_>, b: &Side<'_>, comp: u16, known: bool, changed: &[bool]) -> bool
     requires comp { comp < length a.now.stream.siz.comps }
     requires known { IsTrue known → AreSameHeaders a.now.stream b.now.stream a.now.tile }
-    requires changed { (c : ℕ) → c < length a.now.stream.siz.comps → slice_get changed.now c ≡ Some false → SameHeaders a.now.stream b.now.stream a.now.tile c }
+    requires changed { (c : ℕ) → c < length a.now.stream.siz.comps → slice_get changed.now c ≡ Some false
+        → SameHeaders a.now.stream b.now.stream a.now.tile c }
     ensures { IsTrue result → SameHeaders a.now.stream b.now.stream a.now.tile comp }
 {
     // They are asked for in the contract alone.
@@ -159,7 +161,8 @@ fn is_settled(a: &Side<'_>, b: &Side<'_>, comp: u16, same: bool, empty: bool) ->
     requires comp { comp < length a.now.stream.siz.comps }
     requires same { IsTrue same → SameHeaders a.now.stream b.now.stream a.now.tile comp }
     requires empty { IsTrue empty → IsEmptyIn a.now comp }
-    ensures { IsTrue result → find (differs (meaning_at a.now) (meaning_at b.now)) (component_items (geometry_at a.now) comp) ≡ None }
+    ensures { IsTrue result → find (differs (meaning_at a.now) (meaning_at b.now))
+        (component_items (geometry_at a.now) comp) ≡ None }
 {
     // They are asked for in the contract alone.
     let _ = a;
@@ -187,7 +190,8 @@ fn compare_unless<R: Threads + Sync>(
     requires comp { comp < length a.now.stream.siz.comps }
     requires same { IsTrue same → SameHeaders a.now.stream b.now.stream a.now.tile comp }
     requires empty { IsTrue empty → IsEmptyIn a.now comp }
-    ensures { IfOk result (λ found. found ≡ find (differs (meaning_at a.now) (meaning_at b.now)) (component_items (geometry_at a.now) comp)) }
+    ensures { IfOk result (λ found. found ≡ find (differs (meaning_at a.now) (meaning_at b.now))
+        (component_items (geometry_at a.now) comp)) }
 {
     if is_settled(a, b, comp, same, empty) {
         return Ok(None);
@@ -210,8 +214,10 @@ fn compare_tile<R: Threads + Sync>(
     requires threads { (1 ≤ threads) × (threads ≤ 64) }
     requires beside { AreBeside a.now b.now }
     requires known { IsTrue known → AreSameHeaders a.now.stream b.now.stream a.now.tile }
-    requires changed { (c : ℕ) → c < length a.now.stream.siz.comps → slice_get changed.now c ≡ Some false → SameHeaders a.now.stream b.now.stream a.now.tile c }
-    ensures { IfOk result (λ found. found ≡ find (differs (meaning_at a.now) (meaning_at b.now)) (tile_items a.now.stream a.now.tile)) }
+    requires changed { (c : ℕ) → c < length a.now.stream.siz.comps → slice_get changed.now c ≡ Some false
+        → SameHeaders a.now.stream b.now.stream a.now.tile c }
+    ensures { IfOk result (λ found. found ≡ find (differs (meaning_at a.now) (meaning_at b.now))
+        (tile_items a.now.stream a.now.tile)) }
 {
     let mut empty = false;
     for comp in 0..a.comps() {
@@ -248,7 +254,8 @@ pub(crate) fn compare_between<'a, R: Threads + Sync>(
     requires siz { (meaning_in a).siz ≡ (meaning_in b).siz }
     requires mains { IsTrue tiles.mains → sayings true a.stream.now.main ≡ sayings true b.stream.now.main }
     requires high { tiles.high ≤ tile_number a.stream.now.siz }
-    ensures { IfOk result (λ found. found ≡ find (differs (meaning_in a.entry) (meaning_in b.entry)) (joined (tile_items a.entry.stream.now) tiles.low tiles.high)) }
+    ensures { IfOk result (λ found. found ≡ find (differs (meaning_in a.entry) (meaning_in b.entry))
+        (joined (tile_items a.entry.stream.now) tiles.low tiles.high)) }
 {
     let mut known = false;
     for tile in tiles.low..tiles.high {

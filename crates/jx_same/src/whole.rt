@@ -29,7 +29,8 @@ fn first_differing<R: Threads + Sync>(
     requires threads { (1 ≤ threads) × (threads ≤ 64) }
     requires a { IsInput a }
     requires b { IsInput b }
-    ensures { IfOk result (λ found. found ≡ find (differs (meaning_in a.entry) (meaning_in b.entry)) (items_of a.entry.stream.now)) }
+    ensures { IfOk result (λ found. found ≡ find (differs (meaning_in a.entry) (meaning_in b.entry))
+        (items_of a.entry.stream.now)) }
 {
     if let Some(spot) = compare_pictures(&a, &b) {
         return Ok(Some(spot));
@@ -61,9 +62,12 @@ pub fn compare<R: Threads + Sync>(
     requires threads { (1 ≤ threads) × (threads ≤ 64) }
     requires a { MayBePlanned sa.now ba.now }
     requires b { MayBePlanned sb.now bb.now }
-    ensures first { IfOk result (λ answer. answer ≡ answer_of sa.now (meaning_of sa.now ba.now) (meaning_of sb.now bb.now)) }
-    ensures one { IfOk result (λ answer. answer ≡ told.Same → MeanOne (meaning_of sa.now ba.now) (meaning_of sb.now bb.now)) }
-    ensures within { IfOk result (λ answer. MeanOne (meaning_of sa.now ba.now) (meaning_of sb.now bb.now) → answer ≡ told.Same) }
+    ensures first { IfOk result (λ answer. answer
+        ≡ answer_of sa.now (meaning_of sa.now ba.now) (meaning_of sb.now bb.now)) }
+    ensures one { IfOk result (λ answer. answer ≡ told.Same
+        → MeanOne (meaning_of sa.now ba.now) (meaning_of sb.now bb.now)) }
+    ensures within { IfOk result (λ answer. MeanOne (meaning_of sa.now ba.now) (meaning_of sb.now bb.now)
+        → answer ≡ told.Same) }
     ensures same { IfOk result (λ answer. meaning_of sa.now ba.now ≡ meaning_of sb.now bb.now → answer ≡ told.Same) }
 {
     let a = Input {

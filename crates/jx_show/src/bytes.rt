@@ -50,7 +50,8 @@ pub(crate) fn all_bytes(blocks: &[Block<'_>]) -> u128
 /// Adds bytes to those of a component that is there.
 fn add(sums: &mut Vec<u128>, comp: usize, bytes: u32)
     requires { comp < length sums.now.items → slice_index sums.now.items comp < 2 ^ 127 }
-    ensures { sums.new.items ≡ (if nat_lt comp (length sums.old.items) then slice_set sums.old.items comp (slice_index sums.old.items comp + bytes) else sums.old.items) }
+    ensures { sums.new.items ≡ (if nat_lt comp (length sums.old.items) then slice_set sums.old.items comp
+        (slice_index sums.old.items comp + bytes) else sums.old.items) }
 {
     if comp < sums.len() {
         sums[comp] += u128::from(bytes);
@@ -61,7 +62,8 @@ fn add(sums: &mut Vec<u128>, comp: usize, bytes: u32)
 fn sums_of(alloc: Global, comps: u16, blocks: &[Block<'_>]) -> Result<Vec<u128>, NoMemory>
     requires { All IsSound blocks.now }
     ensures count { IfOk result (λ sums. length sums.items ≡ comps) }
-    ensures each { IfOk result (λ sums. (c : ℕ) → c < comps → slice_index sums.items c ≡ sum_by (bytes_in_comp c) blocks.now) }
+    ensures each { IfOk result (λ sums. (c : ℕ) → c < comps
+        → slice_index sums.items c ≡ sum_by (bytes_in_comp c) blocks.now) }
 {
     let mut sums = vec![in alloc; 0u128; usize::from(comps)]?;
     for block in blocks {
@@ -79,7 +81,8 @@ pub(crate) fn push_bytes(
     blocks: &[Block<'_>],
 ) -> Result<(), NoMemory>
     requires { All IsSound blocks.now }
-    ensures { OnOk result (string_bytes text.new ≡ string_bytes text.old ++ text_of json (joined (byte_facts blocks.now) 0 comps)) }
+    ensures { OnOk result (string_bytes text.new
+        ≡ string_bytes text.old ++ text_of json (joined (byte_facts blocks.now) 0 comps)) }
 {
     let sums = sums_of(alloc, comps, blocks)?;
     for comp in 0..comps {

@@ -151,7 +151,8 @@ pub(crate) fn push_totals(
 ) -> Result<(), NoMemory>
     requires range { StreamInRange stream.now }
     requires sound { All IsSound blocks.now }
-    ensures { OnOk result (string_bytes text.new ≡ string_bytes text.old ++ text_of json (total_facts stream.now blocks.now)) }
+    ensures { OnOk result (string_bytes text.new
+        ≡ string_bytes text.old ++ text_of json (total_facts stream.now blocks.now)) }
 {
     let main = stream.main_view(alloc)?;
     let packets = count_all(alloc, stream, &main)?.1;

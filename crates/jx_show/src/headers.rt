@@ -26,7 +26,8 @@ fn push_on(
     topic: u8,
     segment: &Segment,
 ) -> Result<(), NoMemory>
-    ensures { OnOk result (string_bytes text.new ≡ string_bytes text.old ++ text_of json (facts_on tile ordered topic segment.now)) }
+    ensures { OnOk result (string_bytes text.new
+        ≡ string_bytes text.old ++ text_of json (facts_on tile ordered topic segment.now)) }
 {
     if topic_of(segment) == topic {
         return push_segment(text, json, tile, ordered, segment);
@@ -44,7 +45,8 @@ fn push_topic(
     segments: &[Segment],
     topic: u8,
 ) -> Result<(), NoMemory>
-    ensures { OnOk result (string_bytes text.new ≡ string_bytes text.old ++ text_of json (topic_facts tile ordered segments.now topic)) }
+    ensures { OnOk result (string_bytes text.new
+        ≡ string_bytes text.old ++ text_of json (topic_facts tile ordered segments.now topic)) }
 {
     for segment in segments {
         push_on(text, json, tile, ordered, topic, segment)?;
@@ -60,7 +62,8 @@ pub(crate) fn push_header(
     ordered: bool,
     segments: &[Segment],
 ) -> Result<(), NoMemory>
-    ensures { OnOk result (string_bytes text.new ≡ string_bytes text.old ++ text_of json (header_facts tile ordered segments.now)) }
+    ensures { OnOk result (string_bytes text.new
+        ≡ string_bytes text.old ++ text_of json (header_facts tile ordered segments.now)) }
 {
     for topic in 0..5 {
         push_topic(text, json, tile, ordered, segments, topic)?;
@@ -117,7 +120,8 @@ pub(crate) fn push_tiles(
 ) -> Result<(), NoMemory>
     requires range { StreamInRange stream.now }
     requires main { main.now ≡ entries_joined stream.now.main }
-    ensures { OnOk result (string_bytes text.new ≡ string_bytes text.old ++ text_of json (joined (tile_facts stream.now) 0 (tile_number stream.now.siz))) }
+    ensures { OnOk result (string_bytes text.new
+        ≡ string_bytes text.old ++ text_of json (joined (tile_facts stream.now) 0 (tile_number stream.now.siz))) }
 {
     let usual = parts_of_tile(stream, 0);
     for tile in 0..stream.tile_count() {

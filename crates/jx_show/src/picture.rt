@@ -48,7 +48,8 @@ pub(crate) fn of_comp(tile: Option<u16>, comp: u16) -> About
 /// Appends what is told of the picture and its tiles on the reference grid.
 pub(crate) fn push_picture(text: &mut String, json: bool, stream: &Stream) -> Result<(), NoMemory>
     requires { StreamInRange stream.now }
-    ensures { OnOk result (string_bytes text.new ≡ string_bytes text.old ++ text_of json (picture_facts stream.now.siz)) }
+    ensures { OnOk result (string_bytes text.new
+        ≡ string_bytes text.old ++ text_of json (picture_facts stream.now.siz)) }
 {
     let siz = &stream.siz;
     let all = of_tile(None);
@@ -122,7 +123,8 @@ fn push_differing(
     comp: u16,
     size: CompSize,
 ) -> Result<(), NoMemory>
-    ensures { OnOk result (string_bytes text.new ≡ string_bytes text.old ++ text_of json (differing_facts first comp size)) }
+    ensures { OnOk result (string_bytes text.new
+        ≡ string_bytes text.old ++ text_of json (differing_facts first comp size)) }
 {
     let about = of_comp(None, comp);
     let depth = depth_of(size) == depth_of(first);
@@ -145,7 +147,8 @@ fn size_at(siz: &Siz, comp: u16) -> CompSize
 fn push_comps(text: &mut String, json: bool, siz: &Siz) -> Result<(), NoMemory>
     requires some { 1 ≤ length siz.now.comps }
     requires few { length siz.now.comps ≤ 16384 }
-    ensures { OnOk result (string_bytes text.new ≡ string_bytes text.old ++ text_of json (joined (comp_facts siz.now) 0 (length siz.now.comps))) }
+    ensures { OnOk result (string_bytes text.new
+        ≡ string_bytes text.old ++ text_of json (joined (comp_facts siz.now) 0 (length siz.now.comps))) }
 {
     let first = size_at(siz, 0);
     for comp in 0..comps_of(siz) {

@@ -23,7 +23,8 @@ fn numbered(about: About, number: usize) -> About
 
 /// Appends levels, wavelet, code-blocks and precincts.
 fn push_shape(text: &mut String, json: bool, about: About, shape: &Shape) -> Result<(), NoMemory>
-    ensures { OnOk result (string_bytes text.new ≡ string_bytes text.old ++ text_of json (shape_facts about shape.now)) }
+    ensures { OnOk result (string_bytes text.new
+        ≡ string_bytes text.old ++ text_of json (shape_facts about shape.now)) }
 {
     let size = Value::Size(side_of(shape.xcb), side_of(shape.ycb));
     let style = Style { bits: shape.style };
@@ -53,7 +54,8 @@ fn push_cod(
     ordered: bool,
     cod: &Cod,
 ) -> Result<(), NoMemory>
-    ensures { OnOk result (string_bytes text.new ≡ string_bytes text.old ++ text_of json (cod_facts about ordered cod.now)) }
+    ensures { OnOk result (string_bytes text.new
+        ≡ string_bytes text.old ++ text_of json (cod_facts about ordered cod.now)) }
 {
     let order = fact(Name::Order, about, Value::Word(Word::Order(cod.order)));
     push_kept(text, json, ordered, order)?;
@@ -71,7 +73,8 @@ fn push_cod(
 
 /// Appends the style of quantization and the guard bits.
 fn push_quant(text: &mut String, json: bool, about: About, quant: &Quant) -> Result<(), NoMemory>
-    ensures { OnOk result (string_bytes text.new ≡ string_bytes text.old ++ text_of json (quant_facts about quant.now)) }
+    ensures { OnOk result (string_bytes text.new
+        ≡ string_bytes text.old ++ text_of json (quant_facts about quant.now)) }
 {
     let word = quantization_word(quant.sqcd % 32);
     push_all(
@@ -95,7 +98,8 @@ pub(crate) fn push_entries(
     about: About,
     entries: &[Progression],
 ) -> Result<(), NoMemory>
-    ensures { OnOk result (string_bytes text.new ≡ string_bytes text.old ++ text_of json (entry_facts about 0 entries.now)) }
+    ensures { OnOk result (string_bytes text.new
+        ≡ string_bytes text.old ++ text_of json (entry_facts about 0 entries.now)) }
 {
     for (number, entry) in entries.iter().enumerate() {
         let about = numbered(about, number);
@@ -132,7 +136,8 @@ pub(crate) fn push_segment(
     ordered: bool,
     segment: &Segment,
 ) -> Result<(), NoMemory>
-    ensures { OnOk result (string_bytes text.new ≡ string_bytes text.old ++ text_of json (segment_facts tile ordered segment.now)) }
+    ensures { OnOk result (string_bytes text.new
+        ≡ string_bytes text.old ++ text_of json (segment_facts tile ordered segment.now)) }
 {
     match segment {
         Segment::Cod(cod) => {

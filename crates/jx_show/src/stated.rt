@@ -32,7 +32,8 @@ pub(crate) fn push_one(text: &mut String, json: bool, fact: Fact) -> Result<(), 
 
 /// Appends facts.
 pub(crate) fn push_all(text: &mut String, json: bool, facts: &[Fact]) -> Result<(), NoMemory>
-    ensures { OnOk result (string_bytes text.new ≡ string_bytes text.old ++ flat_map (λ fact. statement_text json (One fact)) facts.now) }
+    ensures { OnOk result (string_bytes text.new
+        ≡ string_bytes text.old ++ flat_map (λ fact. statement_text json (One fact)) facts.now) }
 {
     for fact in facts {
         push_text(text, json, fact)?;
@@ -63,7 +64,8 @@ pub(crate) fn push_precincts(
     about: About,
     bytes: &[u8],
 ) -> Result<(), NoMemory>
-    ensures { OnOk result (string_bytes text.new ≡ string_bytes text.old ++ text_of json (Precincts about bytes.now ∷ [])) }
+    ensures { OnOk result (string_bytes text.new
+        ≡ string_bytes text.old ++ text_of json (Precincts about bytes.now ∷ [])) }
 {
     if json {
         sizes::push_member(text, about, bytes)?;

@@ -31,7 +31,8 @@ fn push_facts(
 ) -> Result<(), NoMemory>
     requires range { StreamInRange stream.now }
     requires sound { All IsSound blocks.now }
-    ensures { OnOk result (string_bytes text.new ≡ string_bytes text.old ++ text_of json (facts_of stream.now blocks.now)) }
+    ensures { OnOk result (string_bytes text.new
+        ≡ string_bytes text.old ++ text_of json (facts_of stream.now blocks.now)) }
 {
     push_picture(text, json, stream)?;
     push_sizes(text, json, &stream.siz)?;
@@ -47,7 +48,8 @@ fn push_facts(
 
 /// Appends what stands before the facts' lines.
 fn push_lines_head(text: &mut String, names: Option<&str>, brand: &str) -> Result<(), AllocError>
-    ensures { OnOk result (string_bytes text.new ≡ string_bytes text.old ++ lines_head (lent_names names.entry) brand.now) }
+    ensures { OnOk result (string_bytes text.new
+        ≡ string_bytes text.old ++ lines_head (lent_names names.entry) brand.now) }
 {
     match names {
         None => text.push_str("file: codestream\n"),
@@ -69,7 +71,8 @@ fn push_boxes(text: &mut String, names: &str, brand: &str) -> Result<(), AllocEr
 
 /// Appends what stands before the facts' members.
 fn push_json_head(text: &mut String, names: Option<&str>, brand: &str) -> Result<(), AllocError>
-    ensures { OnOk result (string_bytes text.new ≡ string_bytes text.old ++ json_head (lent_names names.entry) brand.now) }
+    ensures { OnOk result (string_bytes text.new
+        ≡ string_bytes text.old ++ json_head (lent_names names.entry) brand.now) }
 {
     match names {
         None => text.push_str("{\n  \"file\": \"codestream\""),
@@ -95,7 +98,8 @@ pub fn show_file(
 ) -> Result<String, NoMemory>
     requires range { StreamInRange stream.now }
     requires sound { All IsSound blocks.now }
-    ensures { IfOk result (λ text. string_bytes text ≡ file_text json (lent_names names.entry) brand.now (facts_of stream.now blocks.now)) }
+    ensures { IfOk result (λ text. string_bytes text
+        ≡ file_text json (lent_names names.entry) brand.now (facts_of stream.now blocks.now)) }
 {
     let mut text = String::new(alloc);
     if json {

@@ -23,7 +23,8 @@ pub fn part_end(names: &[PacketName], from: usize, parts: PartChoice) -> usize
     requires { from < length names.now }
     ensures more { from < result }
     ensures within { result ≤ length names.now }
-    ensures group { groups_of parts (drop from names.now) ≡ take (result - from) (drop from names.now) ∷ more_groups parts (drop result names.now) }
+    ensures group { groups_of parts (drop from names.now)
+        ≡ take (result - from) (drop from names.now) ∷ more_groups parts (drop result names.now) }
 {
     let key = key_of(names[from], parts);
     for end in from + 1..names.len() {

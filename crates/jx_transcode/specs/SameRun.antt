@@ -87,7 +87,7 @@ pub record EndsCompared (names : Pair) (s : Status) (blocks : ℕ) (entries : Li
 abbrev pub IsOfFirst : Status → Type 0
 IsOfFirst s = ((number : ℕ) × (place : ℕ) × (s ≡ status.Rule number place)) ⊎ ((number : ℕ) × (found : ℕ) × (s ≡ status.Limit number found))
 
--- some bytes of the file were read, and what is left to be read is the rest of it: no other file was opened since
+-- some bytes of the file were read, and what is left to be read is the rest of it (nothing, where all was read)
 abbrev pub IsStillRead : Option (List ℕ) → Option (List ℕ) → Type 0
 IsStillRead file left = (bytes : List ℕ) × HasRead file left bytes
 

@@ -27,8 +27,11 @@ use std::thread::Threads;
 fn put_all<W: ByteWriter>(writer: &mut W, pieces: &[&[u8]]) -> Result<usize, Refused>
     requires may { W.can_write (W.kept writer.old) }
     requires few { length (concat (map (λ piece. piece.now) pieces.now)) < 2 ^ 64 }
-    ensures ok { IfOk result (λ count. (W.written writer.new ≡ followed_by (concat (map (λ piece. piece.now) pieces.now)) (W.written writer.old)) × (count ≡ length (concat (map (λ piece. piece.now) pieces.now)))) }
-    ensures front { SomeFront (W.written writer.old) (W.written writer.new) (concat (map (λ piece. piece.now) pieces.now)) }
+    ensures ok { IfOk result (λ count. (W.written writer.new
+        ≡ followed_by (concat (map (λ piece. piece.now) pieces.now)) (W.written writer.old))
+        × (count ≡ length (concat (map (λ piece. piece.now) pieces.now)))) }
+    ensures front { SomeFront (W.written writer.old) (W.written writer.new)
+        (concat (map (λ piece. piece.now) pieces.now)) }
     ensures cause { IsErrOf result Refused.Failed → Rose (W.faults writer.old) (W.faults writer.new) }
     ensures rose { W.faults writer.old < W.faults writer.new → IsErrOf result Refused.Failed }
     ensures same { OnOk result (W.faults writer.new ≡ W.faults writer.old) }
@@ -50,9 +53,11 @@ fn put_all<W: ByteWriter>(writer: &mut W, pieces: &[&[u8]]) -> Result<usize, Ref
 fn write_pieces<F: Files>(files: &mut F, to: &str, pieces: &[&[u8]]) -> Result<usize, Refused>
     requires creates { F.can_create files.old to.now }
     requires few { length (concat (map (λ piece. piece.now) pieces.now)) < 2 ^ 64 }
-    ensures ok { OnOk result (IsMade to.now (concat (map (λ piece. piece.now) pieces.now)) (F.meaning files.old) (F.meaning files.new)) }
+    ensures ok { OnOk result (IsMade to.now (concat (map (λ piece. piece.now) pieces.now)) (F.meaning files.old)
+        (F.meaning files.new)) }
     ensures count { IfOk result (λ count. count ≡ length (concat (map (λ piece. piece.now) pieces.now))) }
-    ensures err { OnErr result (IsBegun to.now (concat (map (λ piece. piece.now) pieces.now)) (F.meaning files.old) (F.meaning files.new)) }
+    ensures err { OnErr result (IsBegun to.now (concat (map (λ piece. piece.now) pieces.now)) (F.meaning files.old)
+        (F.meaning files.new)) }
     ensures cause { IsErrOf result Refused.Failed → Rose (F.write_faults files.old) (F.write_faults files.new) }
     ensures rose { F.write_faults files.old < F.write_faults files.new → IsErrOf result Refused.Failed }
     ensures other { F.read_faults files.new ≡ F.read_faults files.old }
@@ -83,9 +88,11 @@ fn write_form<F: Files>(
     requires creates { F.can_create files.old to.now }
     requires within { length input.now ≤ most_bytes }
     requires found { IsCodestream input.now boxed.now }
-    ensures ok { OnOk result (IsMade to.now (file_in form input.now boxed.now out.now) (F.meaning files.old) (F.meaning files.new)) }
+    ensures ok { OnOk result (IsMade to.now (file_in form input.now boxed.now out.now) (F.meaning files.old)
+        (F.meaning files.new)) }
     ensures count { IfOk result (λ count. count ≡ length (file_in form input.now boxed.now out.now)) }
-    ensures err { OnErr result (IsBegun to.now (file_in form input.now boxed.now out.now) (F.meaning files.old) (F.meaning files.new)) }
+    ensures err { OnErr result (IsBegun to.now (file_in form input.now boxed.now out.now) (F.meaning files.old)
+        (F.meaning files.new)) }
     ensures cause { IsErrOf result Refused.Failed → Rose (F.write_faults files.old) (F.write_faults files.new) }
     ensures rose { F.write_faults files.old < F.write_faults files.new → IsErrOf result Refused.Failed }
     ensures other { F.read_faults files.new ≡ F.read_faults files.old }

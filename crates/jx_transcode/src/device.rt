@@ -50,7 +50,9 @@ fn read_on<F: Files>(files: &mut F, bytes: &mut [u8], filled: usize) -> Result<u
     requires room { filled < length bytes.old }
     ensures long { length bytes.new ≡ length bytes.old }
     ensures within { IfOk result (λ n. filled + n ≤ length bytes.new) }
-    ensures read { IfOk result (λ n. (old : Option (List ℕ)) → HasRead old (F.meaning files.old).left (take filled bytes.old) → HasRead old (F.meaning files.new).left (take (filled + n) bytes.new)) }
+    ensures read { IfOk result (λ n. (old : Option (List ℕ))
+        → HasRead old (F.meaning files.old).left (take filled bytes.old)
+        → HasRead old (F.meaning files.new).left (take (filled + n) bytes.new)) }
     ensures end { IfOk result (λ n. n ≡ 0 → IfSome (F.meaning files.new).left (λ rest. rest ≡ [])) }
     ensures same { SameButLeft (F.meaning files.old) (F.meaning files.new) }
     ensures reading { IsTrue (F.meaning files.new).reading }
@@ -75,7 +77,9 @@ fn read_more<F: Files>(
     requires few { vec_len bytes.old ≤ limit + 1 }
     ensures few { vec_len bytes.new ≤ limit + 1 }
     ensures within { IfOk result (λ n. filled + n ≤ vec_len bytes.new) }
-    ensures read { IfOk result (λ n. (old : Option (List ℕ)) → HasRead old (F.meaning files.old).left (take filled bytes.old.items) → HasRead old (F.meaning files.new).left (take (filled + n) bytes.new.items)) }
+    ensures read { IfOk result (λ n. (old : Option (List ℕ))
+        → HasRead old (F.meaning files.old).left (take filled bytes.old.items)
+        → HasRead old (F.meaning files.new).left (take (filled + n) bytes.new.items)) }
     ensures end { IfOk result (λ n. n ≡ 0 → IfSome (F.meaning files.new).left (λ rest. rest ≡ [])) }
     ensures same { SameButLeft (F.meaning files.old) (F.meaning files.new) }
     ensures reading { IsTrue (F.meaning files.new).reading }
@@ -93,8 +97,10 @@ fn fill<F: Files>(files: &mut F, bytes: &mut Vec<u8>, limit: u32) -> Result<usiz
     requires reading { IsTrue (F.meaning files.old).reading }
     requires few { vec_len bytes.old ≤ limit + 1 }
     ensures within { IfOk result (λ n. n ≤ vec_len bytes.new) }
-    ensures bytes { IfOk result (λ n. IfSome (F.meaning files.old).left (λ left. take n bytes.new.items ≡ take (limit + 1) left)) }
-    ensures left { IfOk result (λ n. HasRead (F.meaning files.old).left (F.meaning files.new).left (take n bytes.new.items)) }
+    ensures bytes { IfOk result (λ n. IfSome (F.meaning files.old).left
+        (λ left. take n bytes.new.items ≡ take (limit + 1) left)) }
+    ensures left { IfOk result (λ n. HasRead (F.meaning files.old).left (F.meaning files.new).left
+        (take n bytes.new.items)) }
     ensures same { SameButLeft (F.meaning files.old) (F.meaning files.new) }
     ensures opens { Allows (F.can_open files.old) (F.can_open files.new) }
     ensures creates { Allows (F.can_create files.old) (F.can_create files.new) }

@@ -20,8 +20,10 @@ pub fn read_input<F: Files>(
     limit: u32,
 ) -> Result<Vec<u8>, Refused>
     requires { F.can_open files.old name.now }
-    ensures bytes { IfOk result (λ v. IfSome (joined ((F.meaning files.old).holds name.now)) (λ b. v.items ≡ take (limit + 1) b)) }
-    ensures left { IfOk result (λ v. HasRead (joined ((F.meaning files.old).holds name.now)) (F.meaning files.new).left v.items) }
+    ensures bytes { IfOk result (λ v. IfSome (joined ((F.meaning files.old).holds name.now))
+        (λ b. v.items ≡ take (limit + 1) b)) }
+    ensures left { IfOk result (λ v. HasRead (joined ((F.meaning files.old).holds name.now))
+        (F.meaning files.new).left v.items) }
     ensures there { OnOk result (IsThere (F.meaning files.old) name.now) }
     ensures same { IsUntouched (F.meaning files.old) (F.meaning files.new) }
     ensures opens { Allows (F.can_open files.old) (F.can_open files.new) }

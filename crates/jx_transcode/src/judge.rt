@@ -72,7 +72,8 @@ fn status_at(from: u32, fault: StreamFault) -> Status
 pub fn read_checked<'a>(alloc: Global, file: &'a [u8], limit: u32) -> Result<Accepted<'a>, Status>
     ensures ok { IfOk result (λ read. IsAccepted limit file.entry.now read.picture.stream read.picture.blocks.items) }
     ensures source { IfOk result (λ read. IsSource file.entry.now read.source) }
-    ensures reads { IfOk result (λ read. Reads read.source.codestream.now read.picture.stream read.picture.blocks.items) }
+    ensures reads { IfOk result
+        (λ read. Reads read.source.codestream.now read.picture.stream read.picture.blocks.items) }
     ensures may { IfOk result (λ read. MayBePlanned read.picture.stream read.picture.blocks.items) }
     ensures within { OnOk result (length file.entry.now ≤ limit) }
     ensures err { IfErr result (λ status. IsUnfit limit file.entry.now status) }

@@ -51,13 +51,17 @@ use jx_tile_parts::laws::groups_are_cut;
 
 /// What a plan makes of the input that it was made of, by where it was written: a file, or memory. The output keeps what a written file keeps.
 pub fn plans_are_carried_out()
-    ensures file { (name : Text) (work : Work) (aim : Aim) (input : List ℕ) (s : Stream) (blocks : List Block) (p : Plan)
+    ensures file { (name : Text) (work : Work) (aim : Aim) (input : List ℕ) (s : Stream) (blocks : List Block)
+        (p : Plan)
         (st : Status) (count bytes : ℕ) (tape : List TapeEntry) (old new : Meaning)
-        → MayBeWanted aim.wanted → IsPlanned (rule_in aim s blocks) s blocks aim.wanted p → length input ≤ aim.limit → ReadsLeft aim.reduce input s blocks
-        → IsCarriedTo p name work st count bytes tape old new → IsAnswered name work aim input st count bytes tape old new }
+        → MayBeWanted aim.wanted → IsPlanned (rule_in aim s blocks) s blocks aim.wanted p → length input ≤ aim.limit
+        → ReadsLeft aim.reduce input s blocks
+        → IsCarriedTo p name work st count bytes tape old new
+        → IsAnswered name work aim input st count bytes tape old new }
     ensures memory { (work : Work) (aim : Aim) (input : List ℕ) (s : Stream) (blocks : List Block) (p : Plan)
         (st : Status) (count : ℕ) (out : List ℕ) (tape : List TapeEntry)
-        → MayBeWanted aim.wanted → IsPlanned (rule_in aim s blocks) s blocks aim.wanted p → length input ≤ aim.limit → ReadsLeft aim.reduce input s blocks
+        → MayBeWanted aim.wanted → IsPlanned (rule_in aim s blocks) s blocks aim.wanted p → length input ≤ aim.limit
+        → ReadsLeft aim.reduce input s blocks
         → IsCarriedIn p work st count out tape → ComesOut work aim input st count out tape }
 {
     read_headers_stand();
@@ -69,7 +73,8 @@ pub fn plans_are_carried_out()
 
 /// An input has at most one verdict, where it may have as many bytes as words can ask for.
 pub fn one_verdict()
-    ensures { (aim : Aim) (input : List ℕ) (s t : Status) → aim.limit ≤ most_bytes → Verdict aim input s → Verdict aim input t → s ≡ t }
+    ensures { (aim : Aim) (input : List ℕ) (s t : Status) → aim.limit ≤ most_bytes → Verdict aim input s
+        → Verdict aim input t → s ≡ t }
 {
     one_stream();
     one_first();
@@ -84,12 +89,19 @@ pub fn one_verdict()
 /// An input has at most one output by what is asked of the codestream: two runs that end with Done have made the same bytes, whatever number
 /// of workers, windows and gates they had.
 pub fn one_file()
-    ensures file { (aim : Aim) (input out other : List ℕ) → length input ≤ most_bytes → IsRewritten aim input out → IsRewritten aim input other → out ≡ other }
-    ensures runs { (name again : Text) (work other : Work) (aim : Aim) (input : List ℕ) (blocks bytes blocks2 bytes2 : ℕ) (tape tape2 : List TapeEntry) (old new old2 new2 : Meaning)
-        → aim.limit ≤ most_bytes → (one : EndsBare name work aim input status.Done blocks bytes tape old new) → (two : EndsBare again other aim input status.Done blocks2 bytes2 tape2 old2 new2)
+    ensures file { (aim : Aim) (input out other : List ℕ) → length input ≤ most_bytes → IsRewritten aim input out
+        → IsRewritten aim input other → out ≡ other }
+    ensures runs { (name again : Text) (work other : Work) (aim : Aim) (input : List ℕ)
+        (blocks bytes blocks2 bytes2 : ℕ) (tape tape2 : List TapeEntry) (old new old2 new2 : Meaning)
+        → aim.limit ≤ most_bytes → (one : EndsBare name work aim input status.Done blocks bytes tape old new)
+        → (two : EndsBare again other aim input status.Done blocks2 bytes2 tape2 old2 new2)
         → one.leaves.out ≡ two.leaves.out }
-    ensures boxed { (name again : Text) (work other : Work) (form : FormChoice) (aim : Aim) (input : List ℕ) (boxed boxed2 : Boxed) (blocks bytes blocks2 bytes2 : ℕ) (tape tape2 : List TapeEntry) (old new old2 new2 : Meaning)
-        → aim.limit ≤ most_bytes → (one : EndsAround name work form aim input boxed status.Done blocks bytes tape old new) → (two : EndsAround again other form aim input boxed2 status.Done blocks2 bytes2 tape2 old2 new2)
+    ensures boxed { (name again : Text) (work other : Work) (form : FormChoice) (aim : Aim) (input : List ℕ)
+        (boxed boxed2 : Boxed) (blocks bytes blocks2 bytes2 : ℕ) (tape tape2 : List TapeEntry)
+        (old new old2 new2 : Meaning)
+        → aim.limit ≤ most_bytes
+        → (one : EndsAround name work form aim input boxed status.Done blocks bytes tape old new)
+        → (two : EndsAround again other form aim input boxed2 status.Done blocks2 bytes2 tape2 old2 new2)
         → file_in form input boxed one.out ≡ file_in form input boxed2 two.out }
 {
     one_stream();
@@ -105,7 +117,8 @@ pub fn one_file()
 
 /// A file has at most one verdict, JP2 or not, where it may have as many bytes as words can ask for.
 pub fn one_file_verdict()
-    ensures { (aim : Aim) (input : List ℕ) (s t : Status) → aim.limit ≤ most_bytes → FileVerdict aim input s → FileVerdict aim input t → s ≡ t }
+    ensures { (aim : Aim) (input : List ℕ) (s t : Status) → aim.limit ≤ most_bytes → FileVerdict aim input s
+        → FileVerdict aim input t → s ≡ t }
 {
     one_verdict();
     one_codestream();
@@ -134,7 +147,8 @@ pub fn some_file_verdict()
 
 /// An input of `boxes` has a verdict, and one alone.
 pub fn boxes_have_one_verdict()
-    ensures one { (limit : ℕ) (input : List ℕ) (s t : Status) → BoxesVerdict limit input s → BoxesVerdict limit input t → s ≡ t }
+    ensures one { (limit : ℕ) (input : List ℕ) (s t : Status) → BoxesVerdict limit input s
+        → BoxesVerdict limit input t → s ≡ t }
     ensures some { (limit : ℕ) (input : List ℕ) → (s : Status) × BoxesVerdict limit input s }
 {
     one_tree();
@@ -143,8 +157,10 @@ pub fn boxes_have_one_verdict()
 
 /// Two files have a verdict under `same`, and one alone, where they may have as many bytes as words can ask for.
 pub fn same_has_one_verdict()
-    ensures one { (limit : ℕ) (first second : List ℕ) (s t : Status) → limit ≤ most_bytes → SameVerdict limit first second s → SameVerdict limit first second t → s ≡ t }
-    ensures some { (limit : ℕ) (first second : List ℕ) → limit ≤ most_bytes → AreBytes first → AreBytes second → (s : Status) × SameVerdict limit first second s }
+    ensures one { (limit : ℕ) (first second : List ℕ) (s t : Status) → limit ≤ most_bytes
+        → SameVerdict limit first second s → SameVerdict limit first second t → s ≡ t }
+    ensures some { (limit : ℕ) (first second : List ℕ) → limit ≤ most_bytes → AreBytes first → AreBytes second
+        → (s : Status) × SameVerdict limit first second s }
 {
     one_stream();
     one_first();
@@ -161,8 +177,10 @@ pub fn same_has_one_verdict()
 
 /// With 0 all that was read of an input is left of it: the headline speaks of the input as it is.
 pub fn all_is_left()
-    ensures left { (input : List ℕ) (s : Stream) (blocks : List Block) → length input ≤ most_bytes → Reads input s blocks → ReadsLeft 0 input s blocks }
-    ensures reads { (input : List ℕ) (s : Stream) (blocks : List Block) → length input ≤ most_bytes → ReadsLeft 0 input s blocks → Reads input s blocks }
+    ensures left { (input : List ℕ) (s : Stream) (blocks : List Block) → length input ≤ most_bytes
+        → Reads input s blocks → ReadsLeft 0 input s blocks }
+    ensures reads { (input : List ℕ) (s : Stream) (blocks : List Block) → length input ≤ most_bytes
+        → ReadsLeft 0 input s blocks → Reads input s blocks }
 {
     gathered_may_be_planned();
     whole_stays();
@@ -171,8 +189,10 @@ pub fn all_is_left()
 /// What `transcode` wrote of an input, and left nothing out of, is the same as the input under `same`, where it is within the limits, as a
 /// codestream or as a JP2 file: `inner` is the input's codestream, `again` that of the file that was written.
 pub fn kept_is_same()
-    ensures { (aim : Aim) (limit : ℕ) (input out inner again : List ℕ) (from to : ℕ) (kept : IsKept aim inner again) → aim.reduce ≡ 0 → limit ≤ most_bytes → length input ≤ limit → length out ≤ limit
-        → HasCodestream input from inner → HasCodestream out to again → totals_fault kept.after ≡ None → SameVerdict limit input out status.Done }
+    ensures { (aim : Aim) (limit : ℕ) (input out inner again : List ℕ) (from to : ℕ) (kept : IsKept aim inner again)
+        → aim.reduce ≡ 0 → limit ≤ most_bytes → length input ≤ limit → length out ≤ limit
+        → HasCodestream input from inner → HasCodestream out to again → totals_fault kept.after ≡ None
+        → SameVerdict limit input out status.Done }
 {
     gathered_may_be_planned();
     whole_stays();
@@ -181,8 +201,11 @@ pub fn kept_is_same()
 /// What `transcode` wrote of an input with fewer resolutions differs from the input under `same` in the subsampling factors of the first
 /// component, which are 2^d times as large, where it is within the limits.
 pub fn fewer_differ()
-    ensures { (aim : Aim) (limit : ℕ) (input out inner again : List ℕ) (from to : ℕ) (kept : IsKept aim inner again) → 1 ≤ aim.reduce → limit ≤ most_bytes → length input ≤ limit → length out ≤ limit
-        → HasCodestream input from inner → HasCodestream out to again → totals_fault kept.after ≡ None → SameVerdict limit input out (status.Unlike (unlike.Differs (fewer_difference aim.reduce (size_in kept.reads.whole.siz 0)))) }
+    ensures { (aim : Aim) (limit : ℕ) (input out inner again : List ℕ) (from to : ℕ) (kept : IsKept aim inner again)
+        → 1 ≤ aim.reduce → limit ≤ most_bytes → length input ≤ limit → length out ≤ limit
+        → HasCodestream input from inner → HasCodestream out to again → totals_fault kept.after ≡ None
+        → SameVerdict limit input out (status.Unlike
+        (unlike.Differs (fewer_difference aim.reduce (size_in kept.reads.whole.siz 0)))) }
 {
     gathered_may_be_planned();
     whole_stays();
@@ -190,8 +213,11 @@ pub fn fewer_differ()
 
 /// Two files that `transcode` wrote of one codestream without as many resolutions are the same under `same`, where they are within the limits.
 pub fn as_many_are_same()
-    ensures { (aim more : Aim) (limit : ℕ) (input first second one two : List ℕ) (at to : ℕ) (kept : IsKept aim input one) (again : IsKept more input two) → aim.reduce ≡ more.reduce → length input ≤ most_bytes
-        → length first ≤ limit → length second ≤ limit → HasCodestream first at one → HasCodestream second to two → totals_fault kept.after ≡ None → totals_fault again.after ≡ None
+    ensures { (aim more : Aim) (limit : ℕ) (input first second one two : List ℕ) (at to : ℕ)
+        (kept : IsKept aim input one) (again : IsKept more input two) → aim.reduce ≡ more.reduce
+        → length input ≤ most_bytes
+        → length first ≤ limit → length second ≤ limit → HasCodestream first at one → HasCodestream second to two
+        → totals_fault kept.after ≡ None → totals_fault again.after ≡ None
         → SameVerdict limit first second status.Done }
 {
     one_stream();
@@ -206,8 +232,10 @@ pub fn as_many_are_same()
 
 /// A generated codestream violates no rule, and passes no limit but that on packets of the output, where it may have as many bytes as it has.
 pub fn made_is_accepted()
-    ensures rules { (aim : Aim) (m : Make) (number place : ℕ) → MayBeMade m → Verdict aim (input_of m) (status.Rule number place) → ⊥ }
-    ensures limits { (aim : Aim) (m : Make) (number found : ℕ) → MayBeMade m → length (input_of m) ≤ aim.limit → Verdict aim (input_of m) (status.Limit number found) → number ≡ 7 }
+    ensures rules { (aim : Aim) (m : Make) (number place : ℕ) → MayBeMade m
+        → Verdict aim (input_of m) (status.Rule number place) → ⊥ }
+    ensures limits { (aim : Aim) (m : Make) (number found : ℕ) → MayBeMade m → length (input_of m) ≤ aim.limit
+        → Verdict aim (input_of m) (status.Limit number found) → number ≡ 7 }
 {
     made_is_short();
     made_is_well_formed();
@@ -225,13 +253,18 @@ pub fn made_is_accepted()
 /// no choice is in the way but choice 7 and, where there is no rule of layers, choice 6. Where the planner makes one layer, as that of `one`
 /// does, choice 7 isn't either.
 pub fn made_is_planned()
-    ensures limits { (rule : List ℕ → StreamFacts → Option Rule) (m : Make) (number found : ℕ) → MayBeMade m → MayBeAimed (aim_made rule)
+    ensures limits { (rule : List ℕ → StreamFacts → Option Rule) (m : Make) (number found : ℕ) → MayBeMade m
+        → MayBeAimed (aim_made rule)
         → Verdict (aim_made rule) (input_of m) (status.Limit number found) → ⊥ }
-    ensures choices { (rule : List ℕ → StreamFacts → Option Rule) (m : Make) (number place : ℕ) → MayBeMade m → MayBeAimed (aim_made rule)
-        → Verdict (aim_made rule) (input_of m) (status.Choice number place) → (number ≡ 7) ⊎ ((number ≡ 6) × (place ≡ 0) × HasNoRule (aim_made rule) (input_of m)) }
-    ensures short { (rule : List ℕ → StreamFacts → Option Rule) (m : Make) (place : ℕ) → MayBeMade m → MayBeAimed (aim_made rule) → MakesOneLayer (aim_made rule)
+    ensures choices { (rule : List ℕ → StreamFacts → Option Rule) (m : Make) (number place : ℕ) → MayBeMade m
+        → MayBeAimed (aim_made rule)
+        → Verdict (aim_made rule) (input_of m) (status.Choice number place)
+        → (number ≡ 7) ⊎ ((number ≡ 6) × (place ≡ 0) × HasNoRule (aim_made rule) (input_of m)) }
+    ensures short { (rule : List ℕ → StreamFacts → Option Rule) (m : Make) (place : ℕ) → MayBeMade m
+        → MayBeAimed (aim_made rule) → MakesOneLayer (aim_made rule)
         → Verdict (aim_made rule) (input_of m) (status.Choice 7 place) → ⊥ }
-    ensures blocks { (rule : List ℕ → StreamFacts → Option Rule) (m : Make) (number : ℕ) → MayBeMade m → Verdict (aim_made rule) (input_of m) (status.Block number) → ⊥ }
+    ensures blocks { (rule : List ℕ → StreamFacts → Option Rule) (m : Make) (number : ℕ) → MayBeMade m
+        → Verdict (aim_made rule) (input_of m) (status.Block number) → ⊥ }
 {
     made_is_short();
     made_is_well_formed();

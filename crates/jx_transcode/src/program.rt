@@ -55,35 +55,51 @@ pub fn run<R: Threads + Wait + Sync, F: Files, S: Sink, G: Gate + Sync>(
     gate: &G,
     mut planners: Vec<Box<dyn LayerPlanner>>,
 ) -> Report
-    requires opens { is_good (map string_bytes words.now) ≡ true → F.can_open files.old (request_of (map string_bytes words.now)).from }
-    requires lists { is_boxes (map string_bytes words.now) ≡ true → F.can_open files.old (boxes_of (map string_bytes words.now)).name }
+    requires opens { is_good (map string_bytes words.now) ≡ true
+        → F.can_open files.old (request_of (map string_bytes words.now)).from }
+    requires lists { is_boxes (map string_bytes words.now) ≡ true
+        → F.can_open files.old (boxes_of (map string_bytes words.now)).name }
     requires compares { is_same (map string_bytes words.now) ≡ true
-        → F.can_open files.old (same_of (map string_bytes words.now)).first × F.can_open files.old (same_of (map string_bytes words.now)).second }
-    requires shows { is_show (map string_bytes words.now) ≡ true → F.can_open files.old (show_of (map string_bytes words.now)).name }
-    requires creates { is_good (map string_bytes words.now) ≡ true → F.can_create files.old (request_of (map string_bytes words.now)).to }
-    ensures outcome { Outcome (map string_bytes words.now) (λ text facts. chosen (λ b. serves_text b text) (λ b. rule_of b text facts) planners.items) result.status result.blocks result.tape.items (F.meaning files.old) (F.meaning files.new) (S.said say.old) (S.said say.new) }
+        → F.can_open files.old (same_of (map string_bytes words.now)).first
+        × F.can_open files.old (same_of (map string_bytes words.now)).second }
+    requires shows { is_show (map string_bytes words.now) ≡ true
+        → F.can_open files.old (show_of (map string_bytes words.now)).name }
+    requires creates { is_good (map string_bytes words.now) ≡ true
+        → F.can_create files.old (request_of (map string_bytes words.now)).to }
+    ensures outcome { Outcome (map string_bytes words.now)
+        (λ text facts. chosen (λ b. serves_text b text)
+        (λ b. rule_of b text facts) planners.items) result.status result.blocks result.tape.items
+        (F.meaning files.old) (F.meaning files.new) (S.said say.old) (S.said say.new) }
     ensures read { result.status ≡ Status.ReadFault → Rose (F.read_faults files.old) (F.read_faults files.new) }
     ensures write { result.status ≡ Status.WriteFault
         → Rose (F.write_faults files.old) (F.write_faults files.new) ⊎ Rose (S.faults say.old) (S.faults say.new) }
     // a file that is told as not being there; nothing is created then
-    ensures absent { is_good (map string_bytes words.now) ≡ true → (F.meaning files.old).holds (request_of (map string_bytes words.now)).from ≡ Some None
+    ensures absent { is_good (map string_bytes words.now) ≡ true
+        → (F.meaning files.old).holds (request_of (map string_bytes words.now)).from ≡ Some None
         → EndsAsReadFault result.status (S.faults say.old) (S.faults say.new) }
-    ensures uncreated { is_good (map string_bytes words.now) ≡ true → (F.meaning files.old).holds (request_of (map string_bytes words.now)).from ≡ Some None
+    ensures uncreated { is_good (map string_bytes words.now) ≡ true
+        → (F.meaning files.old).holds (request_of (map string_bytes words.now)).from ≡ Some None
         → IsUntouched (F.meaning files.old) (F.meaning files.new) }
-    ensures unlisted { is_boxes (map string_bytes words.now) ≡ true → (F.meaning files.old).holds (boxes_of (map string_bytes words.now)).name ≡ Some None
+    ensures unlisted { is_boxes (map string_bytes words.now) ≡ true
+        → (F.meaning files.old).holds (boxes_of (map string_bytes words.now)).name ≡ Some None
         → EndsAsReadFault result.status (S.faults say.old) (S.faults say.new) }
-    ensures unfound { is_same (map string_bytes words.now) ≡ true → (F.meaning files.old).holds (same_of (map string_bytes words.now)).first ≡ Some None
+    ensures unfound { is_same (map string_bytes words.now) ≡ true
+        → (F.meaning files.old).holds (same_of (map string_bytes words.now)).first ≡ Some None
         → EndsAsReadFault result.status (S.faults say.old) (S.faults say.new) }
     // the second is opened once the first is accepted
-    ensures unfound_too { is_same (map string_bytes words.now) ≡ true → (F.meaning files.old).holds (same_of (map string_bytes words.now)).second ≡ Some None
+    ensures unfound_too { is_same (map string_bytes words.now) ≡ true
+        → (F.meaning files.old).holds (same_of (map string_bytes words.now)).second ≡ Some None
         → EndsAsReadFault result.status (S.faults say.old) (S.faults say.new) ⊎ IsOfFirst result.status }
-    // where the first is refused, it is still the file that is read
+    // where the first is refused, what is left to be read is an end of it, which nothing is too
     ensures unopened { is_same (map string_bytes words.now) ≡ true → IsOfFirst result.status
-        → IsStillRead (joined ((F.meaning files.old).holds (same_of (map string_bytes words.now)).first)) (F.meaning files.new).left }
-    ensures unshown { is_show (map string_bytes words.now) ≡ true → (F.meaning files.old).holds (show_of (map string_bytes words.now)).name ≡ Some None
+        → IsStillRead (joined ((F.meaning files.old).holds (same_of (map string_bytes words.now)).first))
+        (F.meaning files.new).left }
+    ensures unshown { is_show (map string_bytes words.now) ≡ true
+        → (F.meaning files.old).holds (show_of (map string_bytes words.now)).name ≡ Some None
         → EndsAsReadFault result.status (S.faults say.old) (S.faults say.new) }
     // a call of the files that failed
-    ensures read_rose { F.read_faults files.old < F.read_faults files.new → EndsAsReadFault result.status (S.faults say.old) (S.faults say.new) }
+    ensures read_rose { F.read_faults files.old < F.read_faults files.new
+        → EndsAsReadFault result.status (S.faults say.old) (S.faults say.new) }
     ensures write_rose { F.write_faults files.old < F.write_faults files.new → result.status ≡ Status.WriteFault }
     // a line that couldn't be said
     ensures unsaid { S.faults say.old < S.faults say.new → result.status ≡ Status.WriteFault }
@@ -92,14 +108,19 @@ pub fn run<R: Threads + Wait + Sync, F: Files, S: Sink, G: Gate + Sync>(
         → (Rose (F.write_faults files.old) (F.write_faults files.new) → ⊥)
         → (Rose (S.faults say.old) (S.faults say.new) → ⊥)
         → IsVerdict result.status ⊎ (result.status ≡ Status.NoMemory) }
-    ensures idle { is_good (map string_bytes words.now) ≡ false → is_boxes (map string_bytes words.now) ≡ false → is_same (map string_bytes words.now) ≡ false
+    ensures idle { is_good (map string_bytes words.now) ≡ false → is_boxes (map string_bytes words.now) ≡ false
+        → is_same (map string_bytes words.now) ≡ false
         → is_show (map string_bytes words.now) ≡ false → F.read_faults files.new ≡ F.read_faults files.old }
     // whether boxes that hold positions in the file were kept
-    ensures positions { is_good (map string_bytes words.now) ≡ true → TellsPositions (request_of (map string_bytes words.now)) result.positions result.status (F.meaning files.old) }
+    ensures positions { is_good (map string_bytes words.now) ≡ true
+        → TellsPositions (request_of (map string_bytes words.now)) result.positions result.status
+        (F.meaning files.old) }
     ensures none { is_good (map string_bytes words.now) ≡ false → result.positions ≡ false }
     // what is told beside choice 2
-    ensures misfit { IfSome result.misfit (λ misfit. (is_good (map string_bytes words.now) ≡ true) × TellsMisfit (request_of (map string_bytes words.now)) misfit result.status (F.meaning files.old)) }
-    ensures unwritten { is_good (map string_bytes words.now) ≡ false → F.write_faults files.new ≡ F.write_faults files.old }
+    ensures misfit { IfSome result.misfit (λ misfit. (is_good (map string_bytes words.now) ≡ true)
+        × TellsMisfit (request_of (map string_bytes words.now)) misfit result.status (F.meaning files.old)) }
+    ensures unwritten { is_good (map string_bytes words.now) ≡ false
+        → F.write_faults files.new ≡ F.write_faults files.old }
 {
     match read_command(alloc, words) {
         Ok(Command::Transcode(request)) => {

@@ -214,10 +214,12 @@ pub fn planned<'a, 'b: 'a>(
     requires may { MayBePlanned picture.now.stream picture.now.blocks.items }
     requires wanted { MayBeWanted options.now }
     ensures plan { IfOk result (λ p. IsPlanned (chosen (λ b. serves_text b options.entry.now.layers)
-        (λ b. rule_of b options.entry.now.layers (facts_of picture.entry.now.stream picture.entry.now.blocks.items)) planners.old)
+        (λ b. rule_of b options.entry.now.layers
+        (facts_of picture.entry.now.stream picture.entry.now.blocks.items)) planners.old)
         picture.entry.now.stream picture.entry.now.blocks.items options.entry.now p) }
     ensures err { IfErr result (λ ending. IsUnplannedEnd (chosen (λ b. serves_text b options.entry.now.layers)
-        (λ b. rule_of b options.entry.now.layers (facts_of picture.entry.now.stream picture.entry.now.blocks.items)) planners.old)
+        (λ b. rule_of b options.entry.now.layers
+        (facts_of picture.entry.now.stream picture.entry.now.blocks.items)) planners.old)
         picture.entry.now.stream picture.entry.now.blocks.items options.entry.now ending) }
 {
     let blocks: &[Block<'_>] = &picture.blocks;

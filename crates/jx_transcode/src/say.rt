@@ -25,7 +25,8 @@ pub fn say_line<S: Sink>(say: &mut S, status: Status, line: &str) -> Status
 
 /// Says why nothing was done: the words are no command, or there was no memory to read them.
 pub fn refuse<S: Sink>(alloc: Global, say: &mut S, status: Status) -> Report
-    ensures ends { EndsAs status (line_of status 0 0) result.status (S.said say.old) (S.said say.new) (S.faults say.old) (S.faults say.new) }
+    ensures ends { EndsAs status (line_of status 0 0) result.status (S.said say.old) (S.said say.new)
+        (S.faults say.old) (S.faults say.new) }
     ensures none { result.blocks ≡ 0 }
     ensures tape { result.tape.items ≡ [] }
     ensures positions { result.positions ≡ false }
@@ -46,7 +47,8 @@ pub fn refuse<S: Sink>(alloc: Global, say: &mut S, status: Status) -> Report
 
 /// Says lines, after which all is done.
 pub fn say_lines<S: Sink>(alloc: Global, say: &mut S, lines: &str) -> Report
-    ensures says { EndsAs Status.Done lines.now result.status (S.said say.old) (S.said say.new) (S.faults say.old) (S.faults say.new) }
+    ensures says { EndsAs Status.Done lines.now result.status (S.said say.old) (S.said say.new) (S.faults say.old)
+        (S.faults say.new) }
     ensures none { result.blocks ≡ 0 }
     ensures tape { result.tape.items ≡ [] }
     ensures positions { result.positions ≡ false }

@@ -38,12 +38,15 @@ fn lines_of(alloc: Global, input: &[u8], limit: u32) -> Result<String, Status>
 /// Reads the file of a name, and says the lines of its boxes, or why it can't.
 pub fn run<F: Files, S: Sink>(alloc: Global, asked: &Boxes, files: &mut F, say: &mut S) -> Report
     requires { F.can_open files.old asked.now.name }
-    ensures ends { EndsListed asked.now result.status result.blocks result.tape.items (F.meaning files.old) (F.meaning files.new) (S.said say.old) (S.said say.new) }
+    ensures ends { EndsListed asked.now result.status result.blocks result.tape.items (F.meaning files.old)
+        (F.meaning files.new) (S.said say.old) (S.said say.new) }
     ensures read { result.status ≡ Status.ReadFault → Rose (F.read_faults files.old) (F.read_faults files.new) }
     ensures write { result.status ≡ Status.WriteFault → Rose (S.faults say.old) (S.faults say.new) }
     ensures unsaid { S.faults say.old < S.faults say.new → result.status ≡ Status.WriteFault }
-    ensures absent { (F.meaning files.old).holds asked.now.name ≡ Some None → EndsAsReadFault result.status (S.faults say.old) (S.faults say.new) }
-    ensures read_rose { F.read_faults files.old < F.read_faults files.new → EndsAsReadFault result.status (S.faults say.old) (S.faults say.new) }
+    ensures absent { (F.meaning files.old).holds asked.now.name ≡ Some None
+        → EndsAsReadFault result.status (S.faults say.old) (S.faults say.new) }
+    ensures read_rose { F.read_faults files.old < F.read_faults files.new
+        → EndsAsReadFault result.status (S.faults say.old) (S.faults say.new) }
     ensures other { F.write_faults files.new ≡ F.write_faults files.old }
     ensures positions { result.positions ≡ false }
     ensures misfit { result.misfit ≡ None }

@@ -106,7 +106,8 @@ fn transcoded<R: Threads + Wait + Sync, G: Gate + Sync>(
     requires generated { input.now ≡ input_of asked }
     requires wanted { options.now ≡ wanted_made }
     requires work { crew.now.work ≡ work_made }
-    ensures { IsReadyToSay asked (λ text facts. chosen (λ b. serves_text b text) (λ b. rule_of b text facts) planners.old)
+    ensures { IsReadyToSay asked (λ text facts.
+        chosen (λ b. serves_text b text) (λ b. rule_of b text facts) planners.old)
         result.status result.blocks result.before result.after result.total result.tape.items }
 {
     plans_are_carried_out();
@@ -152,7 +153,9 @@ fn make_line(
 
 /// Says the line of what came out.
 fn say_made<S: Sink>(alloc: Global, say: &mut S, made: MadeFile) -> Report
-    ensures says { EndsAs made.status (make_line made.status made.blocks made.before made.after made.total) result.status (S.said say.old) (S.said say.new) (S.faults say.old) (S.faults say.new) }
+    ensures says { EndsAs made.status
+        (make_line made.status made.blocks made.before made.after made.total) result.status (S.said say.old)
+        (S.said say.new) (S.faults say.old) (S.faults say.new) }
     ensures blocks { result.blocks ≡ made.blocks }
     ensures tape { result.tape.items ≡ made.tape.items }
     ensures positions { result.positions ≡ false }
@@ -188,7 +191,10 @@ pub fn run<R: Threads + Wait + Sync, S: Sink, G: Gate + Sync>(
     planners: &mut [Box<dyn LayerPlanner>],
 ) -> Report
     requires { MayBeMade asked }
-    ensures ends { (files : Meaning) → EndsMade asked (λ text facts. chosen (λ b. serves_text b text) (λ b. rule_of b text facts) planners.old) result.status result.blocks result.tape.items files files (S.said say.old) (S.said say.new) }
+    ensures ends { (files : Meaning) → EndsMade asked
+        (λ text facts. chosen (λ b. serves_text b text)
+        (λ b. rule_of b text facts) planners.old) result.status result.blocks result.tape.items files files
+        (S.said say.old) (S.said say.new) }
     ensures read { result.status ≡ Status.ReadFault → ⊥ }
     ensures write { result.status ≡ Status.WriteFault → Rose (S.faults say.old) (S.faults say.new) }
     ensures unsaid { S.faults say.old < S.faults say.new → result.status ≡ Status.WriteFault }

@@ -17,6 +17,7 @@ use jx_base::{Block, NoMemory};
 use jx_cli::Pair;
 use jx_codestream::Stream;
 use jx_io::{Files, Sink};
+use jx_rounds::threads_for;
 use jx_same::{Answer, compare};
 use std::alloc::{AllocError, Global};
 use std::thread::Threads;
@@ -65,9 +66,11 @@ fn compare_second<R: Threads + Sync, F: Files>(
     requires threads { (1 ≤ threads) × (threads ≤ 64) }
     requires may { MayBePlanned stream.now blocks.now }
     requires opens { F.can_open files.old name.now }
-    ensures told { IsSecondTold limit name.now stream.now blocks.now result (F.meaning files.old) (F.meaning files.new) }
+    ensures told { IsSecondTold limit name.now stream.now blocks.now result (F.meaning files.old)
+        (F.meaning files.new) }
     ensures read { result ≡ Status.ReadFault → Rose (F.read_faults files.old) (F.read_faults files.new) }
-    ensures absent { (F.meaning files.old).holds name.now ≡ Some None → (result ≡ Status.ReadFault) ⊎ (result ≡ Status.NoMemory) }
+    ensures absent { (F.meaning files.old).holds name.now ≡ Some None
+        → (result ≡ Status.ReadFault) ⊎ (result ≡ Status.NoMemory) }
     ensures read_rose { F.read_faults files.old < F.read_faults files.new → result ≡ Status.ReadFault }
     ensures other { F.write_faults files.new ≡ F.write_faults files.old }
 {
@@ -105,10 +108,12 @@ fn compare_files<R: Threads + Sync, F: Files>(
     ensures told { IsToTell names.now result.status result.count (F.meaning files.old) (F.meaning files.new) }
     ensures read { result.status ≡ Status.ReadFault → Rose (F.read_faults files.old) (F.read_faults files.new) }
     ensures write { result.status ≡ Status.WriteFault → ⊥ }
-    ensures absent { (F.meaning files.old).holds names.now.first ≡ Some None → (result.status ≡ Status.ReadFault) ⊎ (result.status ≡ Status.NoMemory) }
+    ensures absent { (F.meaning files.old).holds names.now.first ≡ Some None
+        → (result.status ≡ Status.ReadFault) ⊎ (result.status ≡ Status.NoMemory) }
     ensures absent_too { (F.meaning files.old).holds names.now.second ≡ Some None
         → ((result.status ≡ Status.ReadFault) ⊎ (result.status ≡ Status.NoMemory)) ⊎ IsOfFirst result.status }
-    ensures unopened { IsOfFirst result.status → IsStillRead (joined ((F.meaning files.old).holds names.now.first)) (F.meaning files.new).left }
+    ensures unopened { IsOfFirst result.status
+        → IsStillRead (joined ((F.meaning files.old).holds names.now.first)) (F.meaning files.new).left }
     ensures read_rose { F.read_faults files.old < F.read_faults files.new → result.status ≡ Status.ReadFault }
     ensures other { F.write_faults files.new ≡ F.write_faults files.old }
 {
@@ -128,7 +133,7 @@ fn compare_files<R: Threads + Sync, F: Files>(
             let status = compare_second(
                 rt,
                 alloc,
-                names.threads(),
+                threads_for(rt, names.threads()),
                 &accepted.picture.stream,
                 blocks,
                 files,
@@ -167,7 +172,8 @@ fn blocks_after(status: Status, count: u32) -> u32
 
 /// Says the line of what is known.
 fn say_told<S: Sink>(alloc: Global, say: &mut S, told: Told) -> Report
-    ensures says { EndsAs told.status (same_line told.status) result.status (S.said say.old) (S.said say.new) (S.faults say.old) (S.faults say.new) }
+    ensures says { EndsAs told.status (same_line told.status) result.status (S.said say.old) (S.said say.new)
+        (S.faults say.old) (S.faults say.new) }
     ensures blocks { result.blocks ≡ blocks_after result.status told.count }
     ensures tape { result.tape.items ≡ [] }
     ensures positions { result.positions ≡ false }
@@ -198,15 +204,19 @@ pub fn run<R: Threads + Sync, F: Files, S: Sink>(
     requires asked { MayBeCompared names.now }
     requires opens { F.can_open files.old names.now.first }
     requires opens_too { F.can_open files.old names.now.second }
-    ensures ends { EndsCompared names.now result.status result.blocks result.tape.items (F.meaning files.old) (F.meaning files.new) (S.said say.old) (S.said say.new) }
+    ensures ends { EndsCompared names.now result.status result.blocks result.tape.items (F.meaning files.old)
+        (F.meaning files.new) (S.said say.old) (S.said say.new) }
     ensures read { result.status ≡ Status.ReadFault → Rose (F.read_faults files.old) (F.read_faults files.new) }
     ensures write { result.status ≡ Status.WriteFault → Rose (S.faults say.old) (S.faults say.new) }
     ensures unsaid { S.faults say.old < S.faults say.new → result.status ≡ Status.WriteFault }
-    ensures absent { (F.meaning files.old).holds names.now.first ≡ Some None → EndsAsReadFault result.status (S.faults say.old) (S.faults say.new) }
+    ensures absent { (F.meaning files.old).holds names.now.first ≡ Some None
+        → EndsAsReadFault result.status (S.faults say.old) (S.faults say.new) }
     ensures absent_too { (F.meaning files.old).holds names.now.second ≡ Some None
         → EndsAsReadFault result.status (S.faults say.old) (S.faults say.new) ⊎ IsOfFirst result.status }
-    ensures unopened { IsOfFirst result.status → IsStillRead (joined ((F.meaning files.old).holds names.now.first)) (F.meaning files.new).left }
-    ensures read_rose { F.read_faults files.old < F.read_faults files.new → EndsAsReadFault result.status (S.faults say.old) (S.faults say.new) }
+    ensures unopened { IsOfFirst result.status
+        → IsStillRead (joined ((F.meaning files.old).holds names.now.first)) (F.meaning files.new).left }
+    ensures read_rose { F.read_faults files.old < F.read_faults files.new
+        → EndsAsReadFault result.status (S.faults say.old) (S.faults say.new) }
     ensures other { F.write_faults files.new ≡ F.write_faults files.old }
     ensures positions { result.positions ≡ false }
     ensures misfit { result.misfit ≡ None }

@@ -33,7 +33,9 @@ fn text_of(
 ) -> Result<String, NoMemory>
     requires within { length input.now ≤ most_bytes }
     requires may { MayBePlanned stream.now blocks.now }
-    ensures { IfOk result (λ text. (names : Option (List ℕ)) × HasBoxes input.now names × (string_bytes text ≡ file_text json names (brand_text (brand_of input.now)) (facts_of stream.now blocks.now))) }
+    ensures { IfOk result (λ text. (names : Option (List ℕ)) × HasBoxes input.now names
+        × (string_bytes text ≡ file_text json names (brand_text (brand_of input.now))
+        (facts_of stream.now blocks.now))) }
 {
     let brand = match brand(alloc, input) {
         Ok(brand) => brand,
@@ -79,12 +81,15 @@ fn lines_of(alloc: Global, input: &[u8], json: bool, limit: u32) -> Result<Strin
 /// Reads the file of a name, and says what its codestream is, or why it can't.
 pub fn run<F: Files, S: Sink>(alloc: Global, asked: &Show, files: &mut F, say: &mut S) -> Report
     requires { F.can_open files.old asked.now.name }
-    ensures ends { EndsShown asked.now result.status result.blocks result.tape.items (F.meaning files.old) (F.meaning files.new) (S.said say.old) (S.said say.new) }
+    ensures ends { EndsShown asked.now result.status result.blocks result.tape.items (F.meaning files.old)
+        (F.meaning files.new) (S.said say.old) (S.said say.new) }
     ensures read { result.status ≡ Status.ReadFault → Rose (F.read_faults files.old) (F.read_faults files.new) }
     ensures write { result.status ≡ Status.WriteFault → Rose (S.faults say.old) (S.faults say.new) }
     ensures unsaid { S.faults say.old < S.faults say.new → result.status ≡ Status.WriteFault }
-    ensures absent { (F.meaning files.old).holds asked.now.name ≡ Some None → EndsAsReadFault result.status (S.faults say.old) (S.faults say.new) }
-    ensures read_rose { F.read_faults files.old < F.read_faults files.new → EndsAsReadFault result.status (S.faults say.old) (S.faults say.new) }
+    ensures absent { (F.meaning files.old).holds asked.now.name ≡ Some None
+        → EndsAsReadFault result.status (S.faults say.old) (S.faults say.new) }
+    ensures read_rose { F.read_faults files.old < F.read_faults files.new
+        → EndsAsReadFault result.status (S.faults say.old) (S.faults say.new) }
     ensures other { F.write_faults files.new ≡ F.write_faults files.old }
     ensures positions { result.positions ≡ false }
     ensures misfit { result.misfit ≡ None }

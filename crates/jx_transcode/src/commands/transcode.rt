@@ -63,12 +63,15 @@ fn answer<R: Threads + Wait + Sync, G: Gate + Sync, F: Files>(
     requires work { MayBeWork crew.now.work }
     ensures bare { (IsJp2 input.now → ⊥) → IsAnswered to.now crew.now.work
         (aim_by task.now (λ text facts. chosen (λ b. serves_text b text) (λ b. rule_of b text facts) planners.old))
-        input.now result.status result.blocks result.bytes result.tape.items (F.meaning files.old) (F.meaning files.new) }
+        input.now result.status result.blocks result.bytes result.tape.items (F.meaning files.old)
+        (F.meaning files.new) }
     ensures jp2 { IsJp2 input.now → EndsJp2 to.now crew.now.work task.now.form
         (aim_by task.now (λ text facts. chosen (λ b. serves_text b text) (λ b. rule_of b text facts) planners.old))
-        input.now result.status result.blocks result.bytes result.tape.items (F.meaning files.old) (F.meaning files.new) }
+        input.now result.status result.blocks result.bytes result.tape.items (F.meaning files.old)
+        (F.meaning files.new) }
     ensures long { task.now.limit < length input.now
-        → IsTooLong task.now.limit result.status result.blocks result.bytes result.tape.items (F.meaning files.old) (F.meaning files.new) }
+        → IsTooLong task.now.limit result.status result.blocks result.bytes result.tape.items (F.meaning files.old)
+        (F.meaning files.new) }
     ensures cause { result.status ≡ Status.WriteFault → Rose (F.write_faults files.old) (F.write_faults files.new) }
     ensures rose { F.write_faults files.old < F.write_faults files.new → result.status ≡ Status.WriteFault }
     ensures read { (result.status ≡ Status.ReadFault → ⊥) × (result.status ≡ Status.Words → ⊥) }
@@ -121,7 +124,8 @@ fn told_still(misfit: Option<Misfit>, status: Status) -> Option<Misfit>
 
 /// Says the line of what was done. `positions` says whether boxes that hold positions were kept.
 fn say_ending<S: Sink>(alloc: Global, say: &mut S, ending: Ending, positions: bool) -> Report
-    ensures says { EndsAs ending.status (line_of ending.status ending.blocks ending.bytes) result.status (S.said say.old) (S.said say.new) (S.faults say.old) (S.faults say.new) }
+    ensures says { EndsAs ending.status (line_of ending.status ending.blocks ending.bytes) result.status
+        (S.said say.old) (S.said say.new) (S.faults say.old) (S.faults say.new) }
     ensures blocks { result.blocks ≡ ending.blocks }
     ensures tape { result.tape.items ≡ ending.tape.items }
     ensures failed { ending.status ≡ Status.WriteFault → result.status ≡ Status.WriteFault }
@@ -160,17 +164,24 @@ pub fn run<R: Threads + Wait + Sync, F: Files, S: Sink, G: Gate + Sync>(
     requires wanted { MayBeWanted request.now.wanted }
     requires few { request.now.reduce ≤ 32 }
     requires work { MayBeWork request.now.work }
-    ensures ends { Ends request.now (λ text facts. chosen (λ b. serves_text b text) (λ b. rule_of b text facts) planners.old) result.status result.blocks result.tape.items (F.meaning files.old) (F.meaning files.new) (S.said say.old) (S.said say.new) }
+    ensures ends { Ends request.now (λ text facts.
+        chosen (λ b. serves_text b text)
+        (λ b. rule_of b text facts) planners.old) result.status result.blocks result.tape.items (F.meaning files.old)
+        (F.meaning files.new) (S.said say.old) (S.said say.new) }
     ensures read { result.status ≡ Status.ReadFault → Rose (F.read_faults files.old) (F.read_faults files.new) }
     ensures write { result.status ≡ Status.WriteFault
         → Rose (F.write_faults files.old) (F.write_faults files.new) ⊎ Rose (S.faults say.old) (S.faults say.new) }
     ensures unsaid { S.faults say.old < S.faults say.new → result.status ≡ Status.WriteFault }
-    ensures absent { (F.meaning files.old).holds request.now.from ≡ Some None → EndsAsReadFault result.status (S.faults say.old) (S.faults say.new) }
-    ensures uncreated { (F.meaning files.old).holds request.now.from ≡ Some None → IsUntouched (F.meaning files.old) (F.meaning files.new) }
-    ensures read_rose { F.read_faults files.old < F.read_faults files.new → EndsAsReadFault result.status (S.faults say.old) (S.faults say.new) }
+    ensures absent { (F.meaning files.old).holds request.now.from ≡ Some None
+        → EndsAsReadFault result.status (S.faults say.old) (S.faults say.new) }
+    ensures uncreated { (F.meaning files.old).holds request.now.from ≡ Some None
+        → IsUntouched (F.meaning files.old) (F.meaning files.new) }
+    ensures read_rose { F.read_faults files.old < F.read_faults files.new
+        → EndsAsReadFault result.status (S.faults say.old) (S.faults say.new) }
     ensures write_rose { F.write_faults files.old < F.write_faults files.new → result.status ≡ Status.WriteFault }
     ensures positions { TellsPositions request.now result.positions result.status (F.meaning files.old) }
-    ensures misfit { IfSome result.misfit (λ misfit. TellsMisfit request.now misfit result.status (F.meaning files.old)) }
+    ensures misfit { IfSome result.misfit (λ misfit.
+        TellsMisfit request.now misfit result.status (F.meaning files.old)) }
 {
     let crew = Crew {
         rt,
