@@ -3,7 +3,7 @@
 
 usage: bench/hostile.py PROGRAM [-n COUNT] [-j JOBS] [-s SEED] [-k KEPT] [FOLDER ..]
 
-The files are those of the folders (.j2k, .j2c, .jpc, in subfolders too) and generated ones (bench/generated.py). A damage is a cut, some
+The files are those of the folders (.j2k, .j2c, .jpc, in subfolders too, but bad_*) and generated ones (bench/generated.py). A damage is a cut, some
 bits or bytes that are changed, put in or left out, a segment or a tile-part that is moved, doubled or left out, a number of a segment that is
 set to one of its ends, or the front of one file before the back of another; one file in twenty has none. COUNT is 1000 where it isn't said,
 JOBS 1, SEED 1. The same SEED and folders give the same files and options, whatever JOBS.
@@ -35,7 +35,7 @@ OLDER = b"an older file\n"
 LINES = {
     0: re.compile(rb"done: ([0-9]+) blocks, ([0-9]+) bytes\n"),
     2: re.compile(rb"words\n"),
-    3: re.compile(rb"rule ([1-9]|[12][0-9]|3[01]) at ([0-9]+)\n"),
+    3: re.compile(rb"rule ([1-9]|[12][0-9]|3[01]|37) at ([0-9]+)\n"),
     4: re.compile(rb"limit ([134567]): ([0-9]+)\n"),
     5: re.compile(rb"choice ([1-7]) at ([0-9]+)\n"),
     6: re.compile(rb"block ([0-9]+)\n"),
@@ -266,7 +266,7 @@ def read_files(folders):
         for where, names, here in os.walk(folder):
             names.sort()
             for name in sorted(here):
-                if name.endswith((".j2k", ".j2c", ".jpc")):
+                if name.endswith((".j2k", ".j2c", ".jpc")) and not name.startswith("bad_"):
                     with open(os.path.join(where, name), "rb") as source:
                         data = source.read()
                     if len(data) > 16:
