@@ -1,6 +1,7 @@
 -- From what is made of the blocks of a round to the tape of a run.
 use Rattle.std.proofs.Common.{◌≡◌, ◌∙◌, ◌<◌, ◌≤◌, ◌+◌, ◌-◌, ℕ, suc, true, false, is_some, List, [], ◌∷◌, ◌++◌, length, map, take, drop, refl, ap, sym, subst, arith, inl, inr, Some, append_assoc, append-nil, length-append, length-take, slice_index_or}
 use Rattle.std.specs.List.{All, list_any, slice_get, sum}
+use Rattle.std.proofs.lemmas.Bool.Decides.{nat_tests}
 use Rattle.std.proofs.lemmas.List.{drop_all, drop-drop, drop-map, drop-take, length-map, map-append, take-map, take-take}
 use Rattle.std.proofs.lemmas.List.Elements.{All-append, All-cons, All-head, All-map, All-nil}
 use Rattle.std.proofs.Math.Seq.{drop-cons}
@@ -57,8 +58,7 @@ module _ (laws : NumberLaws) where
 
 -- ---- a run has a worker, and a tape by some of its workers is one by all
 some_workers : (threads : ℕ) → 1 ≤ most_workers threads
-some_workers 0 = omega arith
-some_workers (suc n) = omega arith
+some_workers threads = grind (arith, nat_tests)
 
 pub more_workers : (jobs : List Job) (first threads : ℕ) (work : Work) (entries : List (Taped (Named WrittenBlock))) → threads ≤ most_workers work.threads
     → IsTape jobs first threads work.window work.most entries → IsTapeFrom jobs first work entries
