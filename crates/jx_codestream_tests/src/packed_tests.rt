@@ -1,5 +1,5 @@
-//! Packet headers in PPM and PPT: where they stand in the file, the code-blocks of their packets, and what is refused. Files of other
-//! encoders stand in tests/packed.
+//! Packet headers in PPM and PPT: where they stand in the file, the code-blocks of their packets, and what is refused.
+//! Files of other encoders stand in tests/packed.
 
 use crate::checks::{check, equal_at};
 use crate::files::{EOC, MAIN, PART, Parts, SIZ, TWO, file_of};
@@ -18,7 +18,8 @@ const SHARED: [(&str, u16); 6] = [
     (EOC, 1),
 ];
 
-// A tile with its headers in place, and one of two tile-parts with three PPT. The last of these is the first by index, and empty.
+// A tile with its headers in place, and one of two tile-parts with three PPT. The last of these is the first by index,
+// and empty.
 const OWN: [(&str, u16); 6] = [
     (TWO, 1),
     (MAIN, 1),

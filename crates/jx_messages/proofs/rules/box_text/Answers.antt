@@ -19,6 +19,10 @@ pub returns-in-35 : goal.returns-in-35
 unfolding box_words
 returns-in-35 c = c.row-in-35.ensures ∙ sym (ap box_words c.in-35.is)
 
+pub returns-in-36 : goal.returns-in-36
+unfolding box_words
+returns-in-36 c = c.row-in-36.ensures ∙ sym (ap box_words c.in-36.is)
+
 pub returns-in_default : goal.returns-in_default
 unfolding box_words
 returns-in_default c =
@@ -26,4 +30,5 @@ returns-in_default c =
     let not_33 : (c.args.number == 33) ≡ false = grind (arith, nat_tests, c.in_default) in
     let not_34 : (c.args.number == 34) ≡ false = grind (arith, nat_tests, c.in_default) in
     let not_35 : (c.args.number == 35) ≡ false = grind (arith, nat_tests, c.in_default) in
-    rw (not_32, not_33, not_34, not_35) c.row-in_default.ensures
+    let not_36 : (c.args.number == 36) ≡ false = grind (arith, nat_tests, c.in_default) in
+    rw (not_32, not_33, not_34, not_35, not_36) c.row-in_default.ensures
