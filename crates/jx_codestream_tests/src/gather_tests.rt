@@ -236,7 +236,10 @@ static FAULTS: [(Parts, StreamFault); 4] = [
 ];
 
 // What a file is refused for.
-pub(crate) fn fault_in(alloc: Global, parts: &[(&str, u16)]) -> Result<Option<StreamFault>, AllocError> {
+pub(crate) fn fault_in(
+    alloc: Global,
+    parts: &[(&str, u16)],
+) -> Result<Option<StreamFault>, AllocError> {
     let file = file_of(alloc, parts)?;
     match facts_in(alloc, &file) {
         Ok(_) => Ok(None),

@@ -113,7 +113,11 @@ static FAULTS: [(&str, u8, u32); 5] = [
     // a header that is cut short, in a tile without data
     ("FF90 000A 0000 00000014 00 01 FF61 0004 00 C0 FF93", 26, 85),
     // a byte behind the last header
-    ("FF90 000A 0000 00000015 00 01 FF61 0005 00 00 00 FF93", 31, 83),
+    (
+        "FF90 000A 0000 00000015 00 01 FF61 0005 00 00 00 FF93",
+        31,
+        83,
+    ),
 ];
 
 #[test]
