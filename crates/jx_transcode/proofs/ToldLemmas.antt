@@ -26,10 +26,12 @@ use Rattle.jx_codestream.specs.declared.packed.PackedSegment.{PackedSegment}
 use Rattle.jx_codestream.specs.declared.parts.PlacedPart.{PlacedPart}
 use Rattle.jx_codestream.specs.Params.{limit_4_of, rule_9_of}
 use Rattle.jx_codestream.specs.Parts.{has_wrong_length, marker_at, sod_fault, sot_fault, start_fault}
+use Rattle.jx_codestream.specs.Shapes.{geometry}
+use Rattle.jx_codestream.specs.Spells.{first_sot, main_packed, placed}
 use Rattle.jx_tier2_reader.specs.Cuts.{Breaks, Left, Stops, data_fault, left_fault, packed_fault}
 use Rattle.jx_tier2_reader.specs.Data.{body_fault, due, eph_fault, first_mark, is_eph_cut, front_length, has_sop, marks_fault, number_at, parts_length, rule_30, sop_fault}
 use Rattle.jx_tile.specs.Faults.{passed}
-use Rattle.jx_tier2_reader.specs.Gathered.{IsBroken}
+use Rattle.jx_tier2_reader.specs.Gathered.{IsBroken, head_pieces}
 use Rattle.jx_tile.specs.Totals.{block_total, packet_total, totals_fault}
 use Rattle.jx_transcode.specs.Judged.{BreaksTiles}
 use Rattle.jx_base.specs.Limits.{most_blocks}
@@ -130,7 +132,8 @@ first_told b f (inr (inr (inr (inr (inr (inl x)))))) = told_at _ f (sot_told _ _
 first_told b f (inr (inr (inr (inr (inr (inr (inl x))))))) = told_at _ f (segment_told _ _ _ _ _) x.first
 first_told b f (inr (inr (inr (inr (inr (inr (inr (inl x)))))))) = told_at _ f (sod_told _ _ _ _) x.first
 first_told b f (inr (inr (inr (inr (inr (inr (inr (inr (inl x))))))))) = told_at _ f (told_broken _ _ _) x.first
-first_told b f (inr (inr (inr (inr (inr (inr (inr (inr (inr (inl x)))))))))) = told_at _ f (shares_told _ _ _) x.first
+first_told b f (inr (inr (inr (inr (inr (inr (inr (inr (inr (inl x)))))))))) =
+    told_at _ f (shares_told b (main_packed x.siz x.main) (placed (length x.siz.comps) (first_sot x.siz x.main) x.parts)) x.first
 first_told b f (inr (inr (inr (inr (inr (inr (inr (inr (inr (inr (inl x))))))))))) = told_at _ f (entries_told _) x.first
 first_told b f (inr (inr (inr (inr (inr (inr (inr (inr (inr (inr (inr x))))))))))) = told_at _ f (planes_told _) x.first
 
@@ -199,7 +202,8 @@ totals_told s f e =
 pub broken_told : (b : List ℕ) (s : Stream) (f : StreamFault) → IsBroken b s f → IsTold f
 broken_told b s f (inl totals) = totals_told s f totals
 broken_told b s f (inr (none, inl uncovered)) = told_is f 25 _ uncovered.fault_is
-broken_told b s f (inr (none, inr breaks)) = stops_told _ _ _ _ _ breaks.breaks.rest f breaks.breaks.stops
+broken_told b s f (inr (none, inr breaks)) =
+    stops_told b (geometry s breaks.tile) (head_pieces s breaks.tile) (length breaks.breaks.cuts) breaks.breaks.left breaks.breaks.rest f breaks.breaks.stops
 
 pub stop_told : (input : List ℕ) (f : StreamFault) → IsFirst input f ⊎ BreaksTiles input f → IsTold f
 stop_told input f (inl first) = first_told input f first
