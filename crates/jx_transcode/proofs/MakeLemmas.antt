@@ -163,7 +163,7 @@ wanted_may w same = rw same (record { order = omega arith; bytes = tt; style = r
 
 pub work_may : (w : Work) → w ≡ work_made → MayBeWork w
 work_may w same =
-    rw same (record { some_threads = omega arith; few_threads = omega arith; some_window = omega arith; few_window = omega arith; some_most = omega arith; few_most = omega arith })
+    rw same (record { few_threads = omega arith; some_window = omega arith; few_window = omega arith; some_most = omega arith; few_most = omega arith })
 
 -- what came out in memory
 pub ready_of : (m : Make) (rule : Rules) (s : Status) (blocks before after total : ℕ) (out : List ℕ) (entries : List TapeEntry) → ComesOut work_made (aim_made rule) (input_of m) s blocks out entries → (s ≡ status.WriteFault → ⊥)
