@@ -61,36 +61,42 @@ fn is_read_of_line(alloc: Global, row: &Row) -> Result<bool, WordsFault> {
 
 const MOST: u32 = 268_435_456;
 
-static REQUESTS: [Row; 14] = [
+static REQUESTS: [Row; 15] = [
     // behind `--` each word is a name
     (
         "transcode --sop -- -in --order",
         ["-in", "--order"],
         None,
-        (1, 64, MOST),
+        (0, 64, MOST),
     ),
-    ("transcode -- -- --", ["--", "--"], None, (1, 64, MOST)),
+    ("transcode -- -- --", ["--", "--"], None, (0, 64, MOST)),
     // so is any other word, the empty word too
-    ("transcode - out", ["-", "out"], None, (1, 64, MOST)),
+    ("transcode - out", ["-", "out"], None, (0, 64, MOST)),
     (
         "transcode transcode help",
         ["transcode", "help"],
         None,
-        (1, 64, MOST),
+        (0, 64, MOST),
     ),
-    ("transcode  out", ["", "out"], None, (1, 64, MOST)),
+    ("transcode  out", ["", "out"], None, (0, 64, MOST)),
     (
         "transcode in out --precincts=0x15,15x0,10x9",
         ["in", "out"],
         Some(&[0xF0, 0x0F, 0x9A]),
-        (1, 64, MOST),
+        (0, 64, MOST),
     ),
-    ("transcode in out", ["in", "out"], None, (1, 64, MOST)),
+    ("transcode in out", ["in", "out"], None, (0, 64, MOST)),
     (
         "transcode in out --threads 1",
         ["in", "out"],
         None,
         (1, 64, MOST),
+    ),
+    (
+        "transcode in out --threads auto",
+        ["in", "out"],
+        None,
+        (0, 64, MOST),
     ),
     (
         "transcode in out --threads=64",
@@ -102,25 +108,25 @@ static REQUESTS: [Row; 14] = [
         "transcode in out --window 1",
         ["in", "out"],
         None,
-        (1, 1, MOST),
+        (0, 1, MOST),
     ),
     (
         "transcode in out --window 1024",
         ["in", "out"],
         None,
-        (1, 1024, MOST),
+        (0, 1024, MOST),
     ),
     (
         "transcode in out --window-bytes 1",
         ["in", "out"],
         None,
-        (1, 64, 1),
+        (0, 64, 1),
     ),
     (
         "transcode in out --window-bytes 4294967295",
         ["in", "out"],
         None,
-        (1, 64, 4_294_967_295),
+        (0, 64, 4_294_967_295),
     ),
     (
         "transcode --window-bytes=20 in --threads 8 out --window=300",
