@@ -18,18 +18,18 @@ unbegun : (words : List Text) (rule : List ℕ → StreamFacts → Option Rule) 
 unbegun words rule files said = outcome_memory words rule status.NoMemory 0 0 files said said (inl (refl, inl refl, refl))
 
 -- no count rose, and there was no memory
-counted_unbegun : (words : List Text) (read wrote say : ℕ) → AreCounted words status.NoMemory read read wrote wrote say say
-counted_unbegun words read wrote say =
+counted_unbegun : (words : List Text) (said : Option (List ℕ)) (read wrote say : ℕ) → AreCounted words status.NoMemory said said read read wrote wrote say say
+counted_unbegun words said read wrote say =
     record { read = λ e. absurd (cc); write = λ e. absurd (cc); read_rose = λ less. absurd (omega (arith, less)); write_rose = λ less. absurd (omega (arith, less)); unsaid = λ less. absurd (omega (arith, less)); complete = λ a b c. inr refl; idle = λ a b d e. refl; unwritten = λ e. refl }
 
 pub ended_unbegun : (words : List Text) (rule : List ℕ → StreamFacts → Option Rule) (s : Status) (number : ℕ) (files : Meaning) (said : Option (List ℕ)) (read wrote say : ℕ)
     → s ≡ status.NoMemory → number ≡ number_of s → IsEnded words rule number files files said said read read wrote wrote say say
 ended_unbegun words rule s number files said read wrote say short e =
-    record { status = status.NoMemory; blocks = 0; tape = []; outcome = unbegun words rule files said; counted = counted_unbegun words read wrote say; number_is = e ∙ ap number_of short }
+    record { status = status.NoMemory; blocks = 0; tape = []; outcome = unbegun words rule files said; counted = counted_unbegun words said read wrote say; number_is = e ∙ ap number_of short }
 
 -- a run over these words that has ended
 pub ended_by : (own words : List Text) (rule : List ℕ → StreamFacts → Option Rule) (s : Status) (blocks : ℕ) (tape : List TapeEntry) (number : ℕ) (old new : Meaning) (before now : Option (List ℕ)) (read read_now wrote wrote_now say say_now : ℕ) → own ≡ words
-    → Outcome own rule s blocks tape old new before now → AreCounted own s read read_now wrote wrote_now say say_now → number ≡ number_of s
+    → Outcome own rule s blocks tape old new before now → AreCounted own s before now read read_now wrote wrote_now say say_now → number ≡ number_of s
     → IsEnded words rule number old new before now read read_now wrote wrote_now say say_now
 ended_by own words rule s blocks tape number old new before now read read_now wrote wrote_now say say_now same outcome counted is =
     record {
@@ -37,7 +37,7 @@ ended_by own words rule s blocks tape number old new before now read read_now wr
       blocks = blocks;
       tape = tape;
       outcome = subst (λ (ws : List Text). Outcome ws rule s blocks tape old new before now) same outcome;
-      counted = subst (λ (ws : List Text). AreCounted ws s read read_now wrote wrote_now say say_now) same counted;
+      counted = subst (λ (ws : List Text). AreCounted ws s before now read read_now wrote wrote_now say say_now) same counted;
       number_is = is;
     }
 

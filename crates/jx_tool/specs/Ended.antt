@@ -26,10 +26,10 @@ words_in (Ok args) = map string_bytes (into_iter_items args)
 words_in (Err error) = []
 
 -- the counts of faults of reading, of writing and of saying, before and after, as a status tells them
-pub record AreCounted (words : List Text) (s : Status) (reads reads_now writes writes_now says says_now : ℕ) : Type 0 where
+pub record AreCounted (words : List Text) (s : Status) (before now : Option (List ℕ)) (reads reads_now writes writes_now says says_now : ℕ) : Type 0 where
   pub read : s ≡ ending.ReadFault → Rose reads reads_now
   pub write : s ≡ ending.WriteFault → Rose writes writes_now ⊎ Rose says says_now
-  pub read_rose : reads < reads_now → EndsAsReadFault s says says_now
+  pub read_rose : reads < reads_now → EndsAsReadFault s before now says says_now
   pub write_rose : writes < writes_now → s ≡ ending.WriteFault
   pub unsaid : says < says_now → s ≡ ending.WriteFault
   pub complete : (Rose reads reads_now → ⊥) → (Rose writes writes_now → ⊥) → (Rose says says_now → ⊥) → IsVerdict s ⊎ (s ≡ ending.NoMemory)
@@ -42,7 +42,7 @@ pub record IsEnded (words : List Text) (rule : List ℕ → StreamFacts → Opti
   pub blocks : ℕ
   pub tape : List TapeEntry
   pub outcome : Outcome words rule status blocks tape old new before now
-  pub counted : AreCounted words status reads reads_now writes writes_now says says_now
+  pub counted : AreCounted words status before now reads reads_now writes writes_now says says_now
   pub number_is : number ≡ number_of status
 
 -- with some planners of layers

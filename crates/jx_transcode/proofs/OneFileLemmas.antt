@@ -14,7 +14,7 @@ use Rattle.jx_options.specs.declared.Marks.{Marks}
 use Rattle.jx_plan.specs.Planned.{blocks_written}
 use Rattle.jx_rounds.specs.declared.tape.TapeEntry.{TapeEntry}
 use Rattle.jx_tier2_writer.specs.TileParts.{IsOutput}
-use Rattle.jx_transcode.specs.Aims.{Aim}
+use Rattle.jx_transcode.specs.Aims.{Aim, with_limit}
 use Rattle.jx_transcode.specs.Jp2Run.{EndsAround, LeavesAround, file_in}
 use Rattle.jx_transcode.specs.Rewritten.{IsRewritten, headers_of}
 use Rattle.jx_transcode.specs.TranscodeRun.{EndsBare}
@@ -24,6 +24,19 @@ use Rattle.jx_transcode.proofs.OneVerdictLemmas.{Laws, here}
 -- headers and blocks give one file
 abbrev pub OneOutput : Type 0
 OneOutput = (m : Marks) (s : Stream) (blocks : List Block) (b c : List ℕ) → IsOutput m s blocks b → IsOutput m s blocks c → b ≡ c
+
+-- an output is one by any limit
+pub at_limit : (aim : Aim) (limit : ℕ) (input out : List ℕ) → IsRewritten (with_limit limit aim) input out → IsRewritten aim input out
+at_limit aim limit input out is =
+    record {
+      stream = is.stream;
+      blocks = is.blocks;
+      reads = is.reads;
+      can = record { by = is.can.by; is = is.can.is; layers = is.can.layers; free = is.can.free };
+      right = is.right;
+      output = is.output;
+      short = is.short;
+    }
 
 module _ (laws : Laws) (one : OneOutput) (aim : Aim) (input : List ℕ) (short : length input ≤ most_bytes) where
   pub one_file : (out other : List ℕ) → IsRewritten aim input out → IsRewritten aim input other → out ≡ other

@@ -3,7 +3,7 @@ use Rattle.std.proofs.Common.{◌≡◌, ◌⊎◌, ◌∙◌, ◌<◌, ℕ, Lis
 use Rattle.jx_io.specs.Causes.{Rose}
 use Rattle.jx_transcode.specs.declared.status.Status.{Status}
 use Rattle.jx_transcode.specs.declared.status.Status.TheVariants as status
-use Rattle.jx_transcode.specs.Outcome.{EndsAs, EndsAsReadFault}
+use Rattle.jx_transcode.specs.Outcome.{EndsAs, EndsAsReadFault, EndsUnread}
 use Rattle.jx_transcode.proofs.StatusLemmas.{fault_apart, memory_unread, memory_unwritten, words_unread, words_unwritten}
 
 -- where it rose the line wasn't said, and the run ends as a write fault
@@ -21,20 +21,30 @@ read_said s late line before now fault_before fault_now cause (inr (inl fault)) 
 read_said s late line before now fault_before fault_now cause (inr (inr short)) read = absurd ((memory_unread late short.0).0 read)
 
 -- a fault of reading is told, but for a fault of its line or want of memory
-pub rose_said : (s late : Status) (line : List ℕ) (before now : Option (List ℕ)) (fault_before fault_now : ℕ) → s ≡ status.ReadFault → EndsAs s line late before now fault_before fault_now → EndsAsReadFault late fault_before fault_now
+pub rose_said : (s late : Status) (line : List ℕ) (before now : Option (List ℕ)) (fault_before fault_now : ℕ) → s ≡ status.ReadFault → EndsAs s line late before now fault_before fault_now
+    → EndsAsReadFault late before now fault_before fault_now
 rose_said s late line before now fault_before fault_now is (inl said) = inl (said.0 ∙ is)
 rose_said s late line before now fault_before fault_now is (inr (inl fault)) = inr (inl (fault.0, fault.2))
-rose_said s late line before now fault_before fault_now is (inr (inr short)) = inr (inr short.0)
+rose_said s late line before now fault_before fault_now is (inr (inr short)) = inr (inr (short.0, short.1))
 
-memory_rose : (s late : Status) (line : List ℕ) (before now : Option (List ℕ)) (fault_before fault_now : ℕ) → s ≡ status.NoMemory → EndsAs s line late before now fault_before fault_now → EndsAsReadFault late fault_before fault_now
+-- want of memory for the line is one of the causes
+pub unread_at_all : (s : Status) (before now : Option (List ℕ)) (fault_before fault_now : ℕ)
+    → EndsAsReadFault s before now fault_before fault_now → EndsUnread s fault_before fault_now
+unread_at_all s before now fault_before fault_now (inl read) = inl read
+unread_at_all s before now fault_before fault_now (inr (inl fault)) = inr (inl fault)
+unread_at_all s before now fault_before fault_now (inr (inr short)) = inr (inr short.0)
+
+memory_rose : (s late : Status) (line : List ℕ) (before now : Option (List ℕ)) (fault_before fault_now : ℕ) → s ≡ status.NoMemory → EndsAs s line late before now fault_before fault_now
+    → EndsUnread late fault_before fault_now
 memory_rose s late line before now fault_before fault_now is (inl said) = inr (inr (said.0 ∙ is))
 memory_rose s late line before now fault_before fault_now is (inr (inl fault)) = inr (inl (fault.0, fault.2))
 memory_rose s late line before now fault_before fault_now is (inr (inr short)) = inr (inr short.0)
 
 -- so is an input that couldn't be read for whatever cause
 pub unread_said : (s late : Status) (line : List ℕ) (before now : Option (List ℕ)) (fault_before fault_now : ℕ) → (s ≡ status.ReadFault) ⊎ (s ≡ status.NoMemory) → EndsAs s line late before now fault_before fault_now
-    → EndsAsReadFault late fault_before fault_now
-unread_said s late line before now fault_before fault_now (inl is) said = rose_said s late line before now fault_before fault_now is said
+    → EndsUnread late fault_before fault_now
+unread_said s late line before now fault_before fault_now (inl is) said =
+    unread_at_all late before now fault_before fault_now (rose_said s late line before now fault_before fault_now is said)
 unread_said s late line before now fault_before fault_now (inr is) said = memory_rose s late line before now fault_before fault_now is said
 
 -- and as a write fault for what came before, or for the line

@@ -10,7 +10,7 @@ use Rattle.jx_same.specs.Items.{answer_of}
 use Rattle.jx_same.specs.declared.answer.Answer.{Answer}
 use Rattle.jx_same.specs.declared.answer.Answer.TheVariants as answer
 use Rattle.jx_rounds.specs.Files.{IsUntouched}
-use Rattle.jx_transcode.specs.Outcome.{EndsAs, EndsAsReadFault, IsVerdict, line_of}
+use Rattle.jx_transcode.specs.Outcome.{EndsAs, EndsUnread, IsVerdict, line_of}
 use Rattle.jx_transcode.specs.SameRun.{EndsCompared, IsOfFirst, IsSecondTold, IsToTell, SameVerdict, SecondVerdict, TellsBlocks, answer_status, blocks_after, same_line, second_status}
 use Rattle.jx_transcode.specs.Sources.{IsAccepted, IsUnfit}
 use Rattle.jx_transcode.specs.declared.status.Status.{Status}
@@ -309,7 +309,7 @@ compared_short names late fault_before fault_now files before now said = subst (
 
 -- a second file that isn't there is met once the first is accepted
 pub of_first_said : (s late : Status) (line : List ℕ) (before now : Option (List ℕ)) (fault_before fault_now : ℕ) → ((s ≡ status.ReadFault) ⊎ (s ≡ status.NoMemory)) ⊎ IsOfFirst s
-    → EndsAs s line late before now fault_before fault_now → EndsAsReadFault late fault_before fault_now ⊎ IsOfFirst late
+    → EndsAs s line late before now fault_before fault_now → EndsUnread late fault_before fault_now ⊎ IsOfFirst late
 of_first_said s late line before now fault_before fault_now (inl unread) said = inl (unread_said s late line before now fault_before fault_now unread said)
 of_first_said s late line before now fault_before fault_now (inr of) (inl said) = inr (subst IsOfFirst (sym said.0) of)
 of_first_said s late line before now fault_before fault_now (inr of) (inr (inl fault)) = inl (inr (inl (fault.0, fault.2)))

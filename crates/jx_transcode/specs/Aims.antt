@@ -18,6 +18,10 @@ pub record Aim : Type 0 where
   -- what the first planner that serves the words of layers makes of them for a stream; nothing where none serves them, or it makes none
   pub rule : StreamFacts → Option Rule
 
+-- the same with another limit
+abbrev pub with_limit : ℕ → Aim → Aim
+with_limit limit aim = record { wanted = aim.wanted; reduce = aim.reduce; limit = limit; rule = aim.rule }
+
 -- what a task asks for, with the rule that planners make of its words of layers
 abbrev pub aim_by : Task → (List ℕ → StreamFacts → Option Rule) → Aim
 aim_by task rule = record { wanted = task.options.now; reduce = task.reduce; limit = task.limit; rule = rule task.options.now.layers }

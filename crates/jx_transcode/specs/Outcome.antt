@@ -195,6 +195,14 @@ EndsAs s line late before now fault_before fault_now =
     ⊎ (((late ≡ status.WriteFault) × (now ≡ before) × Rose fault_before fault_now)
     ⊎ ((late ≡ status.NoMemory) × (now ≡ before) × (fault_now ≡ fault_before)))
 
--- the status where a call failed that opens or reads the input; a line that can't be said comes after it, and want of memory for that line
-abbrev pub EndsAsReadFault : Status → ℕ → ℕ → Type 0
-EndsAsReadFault s fault_before fault_now = (s ≡ status.ReadFault) ⊎ (((s ≡ status.WriteFault) × Rose fault_before fault_now) ⊎ (s ≡ status.NoMemory))
+-- the status where a call failed that opens or reads the input. A line that can't be printed comes after it. So does want
+-- of memory for that line: then nothing was printed
+abbrev pub EndsAsReadFault : Status → Option (List ℕ) → Option (List ℕ) → ℕ → ℕ → Type 0
+EndsAsReadFault s before now fault_before fault_now =
+    (s ≡ status.ReadFault)
+    ⊎ (((s ≡ status.WriteFault) × Rose fault_before fault_now) ⊎ ((s ≡ status.NoMemory) × (now ≡ before)))
+
+-- the status where the input isn't there: to open it may fail for want of memory too
+abbrev pub EndsUnread : Status → ℕ → ℕ → Type 0
+EndsUnread s fault_before fault_now =
+    (s ≡ status.ReadFault) ⊎ (((s ≡ status.WriteFault) × Rose fault_before fault_now) ⊎ (s ≡ status.NoMemory))

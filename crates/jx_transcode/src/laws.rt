@@ -9,7 +9,7 @@ ghost use Rattle.jx_marker.specs.Ranges.{AreBytes};
 ghost use Rattle.jx_options.specs.Wanted.{MayBeWanted};
 ghost use Rattle.jx_plan.specs.Plan.{Plan};
 ghost use Rattle.jx_plan.specs.Planned.{IsPlanned};
-ghost use Rattle.jx_transcode.specs.Aims.{Aim, MayBeAimed, rule_in};
+ghost use Rattle.jx_transcode.specs.Aims.{Aim, MayBeAimed, rule_in, with_limit};
 ghost use Rattle.jx_transcode.specs.BoxesRun.{BoxesVerdict};
 ghost use Rattle.jx_cli.specs.MakeWords.{Make, MayBeMade};
 ghost use Rattle.jx_transcode.specs.declared.status.Status.{Status};
@@ -91,6 +91,9 @@ pub fn one_verdict()
 pub fn one_file()
     ensures file { (aim : Aim) (input out other : List ℕ) → length input ≤ most_bytes → IsRewritten aim input out
         → IsRewritten aim input other → out ≡ other }
+    // a limit that lets the input pass changes nothing
+    ensures limits { (aim : Aim) (limit : ℕ) (input out other : List ℕ) → length input ≤ most_bytes
+        → IsRewritten aim input out → IsRewritten (with_limit limit aim) input other → out ≡ other }
     ensures runs { (name again : Text) (work other : Work) (aim : Aim) (input : List ℕ)
         (blocks bytes blocks2 bytes2 : ℕ) (tape tape2 : List TapeEntry) (old new old2 new2 : Meaning)
         → aim.limit ≤ most_bytes → (one : EndsBare name work aim input status.Done blocks bytes tape old new)

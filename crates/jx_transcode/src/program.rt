@@ -10,7 +10,7 @@ ghost use Rattle.jx_cli.specs.ShowWords.{is_show, show_of};
 ghost use Rattle.jx_cli.specs.Words.{is_good, request_of};
 ghost use Rattle.jx_transcode.specs.Misfits.{TellsMisfit};
 ghost use Rattle.jx_rounds.specs.Files.{IsUntouched};
-ghost use Rattle.jx_transcode.specs.Outcome.{EndsAsReadFault, IsVerdict};
+ghost use Rattle.jx_transcode.specs.Outcome.{EndsAsReadFault, EndsUnread, IsVerdict};
 ghost use Rattle.jx_transcode.specs.Runs.{Outcome};
 ghost use Rattle.jx_transcode.specs.SameRun.{IsOfFirst, IsStillRead};
 ghost use Rattle.jx_transcode.specs.TranscodeRun.{TellsPositions};
@@ -76,30 +76,31 @@ pub fn run<R: Threads + Wait + Sync, F: Files, S: Sink, G: Gate + Sync>(
     // a file that is told as not being there; nothing is created then
     ensures absent { is_good (map string_bytes words.now) ≡ true
         → (F.meaning files.old).holds (request_of (map string_bytes words.now)).from ≡ Some None
-        → EndsAsReadFault result.status (S.faults say.old) (S.faults say.new) }
+        → EndsUnread result.status (S.faults say.old) (S.faults say.new) }
     ensures uncreated { is_good (map string_bytes words.now) ≡ true
         → (F.meaning files.old).holds (request_of (map string_bytes words.now)).from ≡ Some None
         → IsUntouched (F.meaning files.old) (F.meaning files.new) }
     ensures unlisted { is_boxes (map string_bytes words.now) ≡ true
         → (F.meaning files.old).holds (boxes_of (map string_bytes words.now)).name ≡ Some None
-        → EndsAsReadFault result.status (S.faults say.old) (S.faults say.new) }
+        → EndsUnread result.status (S.faults say.old) (S.faults say.new) }
     ensures unfound { is_same (map string_bytes words.now) ≡ true
         → (F.meaning files.old).holds (same_of (map string_bytes words.now)).first ≡ Some None
-        → EndsAsReadFault result.status (S.faults say.old) (S.faults say.new) }
+        → EndsUnread result.status (S.faults say.old) (S.faults say.new) }
     // the second is opened once the first is accepted
     ensures unfound_too { is_same (map string_bytes words.now) ≡ true
         → (F.meaning files.old).holds (same_of (map string_bytes words.now)).second ≡ Some None
-        → EndsAsReadFault result.status (S.faults say.old) (S.faults say.new) ⊎ IsOfFirst result.status }
+        → EndsUnread result.status (S.faults say.old) (S.faults say.new) ⊎ IsOfFirst result.status }
     // where the first is refused, what is left to be read is an end of it, which nothing is too
     ensures unopened { is_same (map string_bytes words.now) ≡ true → IsOfFirst result.status
         → IsStillRead (joined ((F.meaning files.old).holds (same_of (map string_bytes words.now)).first))
         (F.meaning files.new).left }
     ensures unshown { is_show (map string_bytes words.now) ≡ true
         → (F.meaning files.old).holds (show_of (map string_bytes words.now)).name ≡ Some None
-        → EndsAsReadFault result.status (S.faults say.old) (S.faults say.new) }
+        → EndsUnread result.status (S.faults say.old) (S.faults say.new) }
     // a call of the files that failed
     ensures read_rose { F.read_faults files.old < F.read_faults files.new
-        → EndsAsReadFault result.status (S.faults say.old) (S.faults say.new) }
+        → EndsAsReadFault result.status (S.said say.old) (S.said say.new) (S.faults say.old)
+        (S.faults say.new) }
     ensures write_rose { F.write_faults files.old < F.write_faults files.new → result.status ≡ Status.WriteFault }
     // a line that couldn't be said
     ensures unsaid { S.faults say.old < S.faults say.new → result.status ≡ Status.WriteFault }

@@ -3,7 +3,7 @@
 ghost use Rattle.std.specs.Prelude.{◌≡◌, ◌<◌, IfErr, IfOk, None, Some, false, string_bytes};
 ghost use Rattle.jx_io.specs.Causes.{Rose};
 ghost use Rattle.jx_transcode.specs.BoxesRun.{EndsListed, IsListed, IsUnlisted};
-ghost use Rattle.jx_transcode.specs.Outcome.{EndsAsReadFault};
+ghost use Rattle.jx_transcode.specs.Outcome.{EndsAsReadFault, EndsUnread};
 
 use crate::input::{read_input, unread_as};
 use crate::say::{refuse, say_lines};
@@ -44,9 +44,10 @@ pub fn run<F: Files, S: Sink>(alloc: Global, asked: &Boxes, files: &mut F, say: 
     ensures write { result.status ≡ Status.WriteFault → Rose (S.faults say.old) (S.faults say.new) }
     ensures unsaid { S.faults say.old < S.faults say.new → result.status ≡ Status.WriteFault }
     ensures absent { (F.meaning files.old).holds asked.now.name ≡ Some None
-        → EndsAsReadFault result.status (S.faults say.old) (S.faults say.new) }
+        → EndsUnread result.status (S.faults say.old) (S.faults say.new) }
     ensures read_rose { F.read_faults files.old < F.read_faults files.new
-        → EndsAsReadFault result.status (S.faults say.old) (S.faults say.new) }
+        → EndsAsReadFault result.status (S.said say.old) (S.said say.new) (S.faults say.old)
+        (S.faults say.new) }
     ensures other { F.write_faults files.new ≡ F.write_faults files.old }
     ensures positions { result.positions ≡ false }
     ensures misfit { result.misfit ≡ None }

@@ -5,7 +5,7 @@ ghost use Rattle.jx_cli.specs.SameWords.{MayBeCompared};
 ghost use Rattle.jx_io.specs.Causes.{Rose};
 ghost use Rattle.jx_io.specs.Device.{joined};
 ghost use Rattle.jx_plan.specs.Plan.{MayBePlanned};
-ghost use Rattle.jx_transcode.specs.Outcome.{EndsAs, EndsAsReadFault};
+ghost use Rattle.jx_transcode.specs.Outcome.{EndsAs, EndsAsReadFault, EndsUnread};
 ghost use Rattle.jx_transcode.specs.SameRun.{EndsCompared, IsOfFirst, IsSecondTold, IsStillRead, IsToTell, answer_status, blocks_after, same_line, second_status};
 
 use crate::input::{read_input, unread_as};
@@ -210,13 +210,14 @@ pub fn run<R: Threads + Sync, F: Files, S: Sink>(
     ensures write { result.status ≡ Status.WriteFault → Rose (S.faults say.old) (S.faults say.new) }
     ensures unsaid { S.faults say.old < S.faults say.new → result.status ≡ Status.WriteFault }
     ensures absent { (F.meaning files.old).holds names.now.first ≡ Some None
-        → EndsAsReadFault result.status (S.faults say.old) (S.faults say.new) }
+        → EndsUnread result.status (S.faults say.old) (S.faults say.new) }
     ensures absent_too { (F.meaning files.old).holds names.now.second ≡ Some None
-        → EndsAsReadFault result.status (S.faults say.old) (S.faults say.new) ⊎ IsOfFirst result.status }
+        → EndsUnread result.status (S.faults say.old) (S.faults say.new) ⊎ IsOfFirst result.status }
     ensures unopened { IsOfFirst result.status
         → IsStillRead (joined ((F.meaning files.old).holds names.now.first)) (F.meaning files.new).left }
     ensures read_rose { F.read_faults files.old < F.read_faults files.new
-        → EndsAsReadFault result.status (S.faults say.old) (S.faults say.new) }
+        → EndsAsReadFault result.status (S.said say.old) (S.said say.new) (S.faults say.old)
+        (S.faults say.new) }
     ensures other { F.write_faults files.new ≡ F.write_faults files.old }
     ensures positions { result.positions ≡ false }
     ensures misfit { result.misfit ≡ None }

@@ -7,7 +7,7 @@ ghost use Rattle.jx_jp2.specs.Names.{brand_of, brand_text};
 ghost use Rattle.jx_plan.specs.Plan.{MayBePlanned};
 ghost use Rattle.jx_show.specs.Facts.{facts_of};
 ghost use Rattle.jx_show.specs.File.{file_text};
-ghost use Rattle.jx_transcode.specs.Outcome.{EndsAsReadFault};
+ghost use Rattle.jx_transcode.specs.Outcome.{EndsAsReadFault, EndsUnread};
 ghost use Rattle.jx_transcode.specs.Sources.{IsUnfit};
 ghost use Rattle.jx_transcode.specs.ShowRun.{EndsShown, HasBoxes, IsShown};
 
@@ -87,9 +87,10 @@ pub fn run<F: Files, S: Sink>(alloc: Global, asked: &Show, files: &mut F, say: &
     ensures write { result.status ≡ Status.WriteFault → Rose (S.faults say.old) (S.faults say.new) }
     ensures unsaid { S.faults say.old < S.faults say.new → result.status ≡ Status.WriteFault }
     ensures absent { (F.meaning files.old).holds asked.now.name ≡ Some None
-        → EndsAsReadFault result.status (S.faults say.old) (S.faults say.new) }
+        → EndsUnread result.status (S.faults say.old) (S.faults say.new) }
     ensures read_rose { F.read_faults files.old < F.read_faults files.new
-        → EndsAsReadFault result.status (S.faults say.old) (S.faults say.new) }
+        → EndsAsReadFault result.status (S.said say.old) (S.said say.new) (S.faults say.old)
+        (S.faults say.new) }
     ensures other { F.write_faults files.new ≡ F.write_faults files.old }
     ensures positions { result.positions ≡ false }
     ensures misfit { result.misfit ≡ None }

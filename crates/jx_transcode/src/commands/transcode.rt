@@ -12,7 +12,7 @@ ghost use Rattle.jx_transcode.specs.Filed.{IsAnswered, IsTooLong, unread_as};
 ghost use Rattle.jx_transcode.specs.Jp2Run.{EndsJp2, KeepsPositions};
 ghost use Rattle.jx_transcode.specs.Misfits.{IsChoice, IsMisfitOfFile, TellsMisfit};
 ghost use Rattle.jx_rounds.specs.Files.{IsUntouched};
-ghost use Rattle.jx_transcode.specs.Outcome.{EndsAs, EndsAsReadFault, line_of};
+ghost use Rattle.jx_transcode.specs.Outcome.{EndsAs, EndsAsReadFault, EndsUnread, line_of};
 ghost use Rattle.jx_transcode.specs.TranscodeRun.{Ends, TellsPositions};
 
 use crate::around::write_around;
@@ -173,11 +173,12 @@ pub fn run<R: Threads + Wait + Sync, F: Files, S: Sink, G: Gate + Sync>(
         → Rose (F.write_faults files.old) (F.write_faults files.new) ⊎ Rose (S.faults say.old) (S.faults say.new) }
     ensures unsaid { S.faults say.old < S.faults say.new → result.status ≡ Status.WriteFault }
     ensures absent { (F.meaning files.old).holds request.now.from ≡ Some None
-        → EndsAsReadFault result.status (S.faults say.old) (S.faults say.new) }
+        → EndsUnread result.status (S.faults say.old) (S.faults say.new) }
     ensures uncreated { (F.meaning files.old).holds request.now.from ≡ Some None
         → IsUntouched (F.meaning files.old) (F.meaning files.new) }
     ensures read_rose { F.read_faults files.old < F.read_faults files.new
-        → EndsAsReadFault result.status (S.faults say.old) (S.faults say.new) }
+        → EndsAsReadFault result.status (S.said say.old) (S.said say.new) (S.faults say.old)
+        (S.faults say.new) }
     ensures write_rose { F.write_faults files.old < F.write_faults files.new → result.status ≡ Status.WriteFault }
     ensures positions { TellsPositions request.now result.positions result.status (F.meaning files.old) }
     ensures misfit { IfSome result.misfit (λ misfit.

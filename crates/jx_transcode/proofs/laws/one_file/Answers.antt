@@ -1,5 +1,5 @@
 use Rattle.jx_transcode.proofs.OneVerdictLemmas.{Laws}
-use Rattle.jx_transcode.proofs.OneFileLemmas.{one_file, same_files, same_runs}
+use Rattle.jx_transcode.proofs.OneFileLemmas.{at_limit, one_file, same_files, same_runs}
 use Rattle.jx_transcode.proofs.laws.one_file.Goals as goal
 
 laws : goal.After-one_codestream → Laws
@@ -17,6 +17,10 @@ laws c = record {
 
 pub returns-clause-file : goal.returns-clause-file
 returns-clause-file c aim input out other short x y = one_file (laws c) c.one_output.ensures.one aim input short out other x y
+
+pub returns-clause-limits : goal.returns-clause-limits
+returns-clause-limits c aim limit input out other short x y =
+    one_file (laws c) c.one_output.ensures.one aim input short out other x (at_limit aim limit input other y)
 
 pub returns-clause-runs : goal.returns-clause-runs
 returns-clause-runs c name again work other aim input blocks bytes blocks2 bytes2 tape tape2 old new old2 new2 few x y =
