@@ -84,9 +84,14 @@ with_spelled e is = rw (both_less e.rs e.re e.cs e.ce is.res is.comp) refl
 six_spelled : (e : Progression) → IsVolume e
     → volume_of (decimal e.rs ∷ decimal e.cs ∷ decimal e.lye ∷ decimal e.re ∷ decimal e.ce ∷ word_named e.order ∷ []) ≡ Some e
 six_spelled e is =
-    rw (from_0_spelled 32 e.rs (omega arith) (omega (arith, is.res, is.few_res)), from_0_spelled 16383 e.cs (omega arith) (omega (arith, is.comp, is.few_comps)),
-    number_spelled 65535 e.lye (omega arith) is.layers is.few_layers, number_spelled 33 e.re (omega arith) (omega (arith, is.res)) is.few_res,
-    number_spelled 16384 e.ce (omega arith) (omega (arith, is.comp)) is.few_comps, order_spelled e.order is.order) (with_spelled e is)
+    rw (
+      from_0_spelled 32 e.rs (omega arith) (omega (arith, is.res, is.few_res)),
+      from_0_spelled 16383 e.cs (omega arith) (omega (arith, is.comp, is.few_comps)),
+      number_spelled 65535 e.lye (omega arith) is.layers is.few_layers,
+      number_spelled 33 e.re (omega arith) (omega (arith, is.res)) is.few_res,
+      number_spelled 16384 e.ce (omega arith) (omega (arith, is.comp)) is.few_comps,
+      order_spelled e.order is.order,
+    ) (with_spelled e is)
 
 cut_here : (c : ℕ) (text more : List ℕ) → HasNo c text → parts_of c (text ++ c ∷ more) ≡ text ∷ parts_of c more
 unfolding parts_of
@@ -162,9 +167,10 @@ volumes_first e (next ∷ es) are = low _ (volume_text e) (digit_text e (All-hea
   where
     digit_text : (e : Progression) → IsVolume e → (1 ≤ length (volume_text e)) × (slice_index_or (volume_text e) 0 0 ≤ 57)
     digit_text e is =
-        let small : e.rs < 2 ^ 64 = omega (arith, is.res, is.few_res) in
-        (omega (arith, decimal_nonempty e.rs small, length-append (decimal e.rs) (44 ∷ join_with_byte 44 (decimal e.cs ∷ decimal e.lye ∷ decimal e.re ∷ decimal e.ce ∷ word_named e.order ∷ []))),
-        digit_first e.rs _ small)
+        let small : e.rs < 2 ^ 64 = omega (arith, is.res, is.few_res) in (
+          omega (arith, decimal_nonempty e.rs small, length-append (decimal e.rs) (44 ∷ join_with_byte 44 (decimal e.cs ∷ decimal e.lye ∷ decimal e.re ∷ decimal e.ce ∷ word_named e.order ∷ []))),
+          digit_first e.rs _ small,
+        )
 
     low : (more text : List ℕ) → (1 ≤ length text) × (slice_index_or text 0 0 ≤ 57) → slice_index_or (text ++ more) 0 0 ≤ 57
     low more [] is = absurd (omega (arith, is.0))

@@ -25,8 +25,8 @@ bytes_in precincts.Max = Some []
 bytes_in (precincts.List bytes) = Some bytes.items
 
 -- entries that are lent
-abbrev pub entries_lent : Option (Bor (List Progression)) → Option (List Progression)
-entries_lent entries = option_map (λ (list : Bor (List Progression)). list.now) entries
+abbrev pub borrowed_entries : Option (Bor (List Progression)) → Option (List Progression)
+borrowed_entries entries = option_map (λ (list : Bor (List Progression)). list.now) entries
 
 -- bytes that are lent
 abbrev pub lent : Option (Bor (List ℕ)) → Option (List ℕ)

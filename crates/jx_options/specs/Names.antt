@@ -15,7 +15,7 @@ use Rattle.jx_options.specs.declared.names.OptionName.{OptionName}
 use Rattle.jx_options.specs.declared.names.OptionName.TheVariants as name
 use Rattle.jx_options.specs.Orders.{order_help, order_said, order_words}
 use Rattle.jx_options.specs.Values.{precincts_said, style_said, value_in}
-use Rattle.jx_options.specs.Volumes.{poc_said}
+use Rattle.jx_options.specs.Volumes.{parse_poc}
 
 -- those of `transcode`, in the order of its help
 abbrev pub transcode_names : List OptionName
@@ -145,7 +145,7 @@ listed_of _ = []
 -- a word is a value of an option: to the planners of layers any text may be one, and a flag has none
 abbrev pub is_value : OptionName → List ℕ → Bool
 is_value name.Order word = is_some (order_said word)
-is_value name.Poc word = is_some (poc_said word)
+is_value name.Poc word = is_some (parse_poc word)
 is_value name.Precincts word = is_some (precincts_said word)
 is_value name.Layers word = true
 is_value name.TileParts word = is_some (parts_said word)
@@ -230,7 +230,7 @@ range_of _ = []
 
 -- what a value has to be that is neither a number, nor listed, nor any text
 abbrev pub form_of : OptionName → List ℕ
-form_of name.Poc = codes "none, keep, or 1 to 32 volumes RS,CS,LYE,RE,CE,ORDER with / between them:\n  RS 0 to 32, CS 0 to 16383, LYE 1 to 65535, RE 1 to 33, CE 1 to 16384,\n  RS below RE, CS below CE, ORDER one of the five orders"
+form_of name.Poc = codes "none, keep, or 1 to 32 volumes RS,CS,LYE,RE,CE,ORDER with / between them:\n  RS 0 to 32, CS 0 to 16383, LYE 1 to 65535, RE 1 to 33, CE 1 to 16384,\n  RS below RE, CS below CE, ORDER lrcp, rlcp, rpcl, pcrl or cprl in any case"
 form_of name.Precincts = codes "keep, max, or 1 to 33 items XxY with commas, X and Y from 0 to 15"
 form_of name.Style = codes "keep, none, or names with + between them, each at most once:\n  bypass, reset, terminate, causal, segment"
 form_of name.Threads = codes "auto, or a number from 1 to 64, without a sign or leading zeros"

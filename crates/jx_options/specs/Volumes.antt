@@ -1,4 +1,4 @@
--- Volumes of packets, as `--poc` names them: the entries of a POC segment (T.800, A.6.6, Table A.32), each as RS,CS,LYE,RE,CE,ORDER.
+-- The volumes of `--poc`: entries of a POC segment (T.800, A.6.6, Table A.32), each as RS,CS,LYE,RE,CE,ORDER.
 use Rattle.std.specs.Prelude.{◌≤◌, ◌<◌, ℕ, ◌&&◌, nat_lt, List, [], ◌∷◌, length, map, Option, None, Some, codes, if◌then◌else◌}
 use Rattle.std.specs.Char.{to_ascii_lowercase}
 use Rattle.std.specs.Fmt.{decimal}
@@ -30,7 +30,8 @@ pub record AreVolumes (entries : List Progression) : Type 0 where
 -- the numbers of a volume, with commas (44) between them, and the word of its order
 abbrev pub volume_text : Progression → List ℕ
 volume_text e =
-    join_with_byte 44 (decimal e.rs ∷ decimal e.cs ∷ decimal e.lye ∷ decimal e.re ∷ decimal e.ce ∷ word_named e.order ∷ [])
+    join_with_byte 44
+    (decimal e.rs ∷ decimal e.cs ∷ decimal e.lye ∷ decimal e.re ∷ decimal e.ce ∷ word_named e.order ∷ [])
 
 -- with slashes (47) between them
 abbrev pub volumes_text : List Progression → List ℕ
@@ -52,7 +53,8 @@ order_named text = value_in volume_orders (map to_ascii_lowercase text)
 -- an entry that has a resolution and a component
 abbrev pub volume_with : (rs cs lye re ce order : ℕ) → Option Progression
 volume_with rs cs lye re ce order =
-    if nat_lt rs re && nat_lt cs ce then Some (record { rs = rs; cs = cs; lye = lye; re = re; ce = ce; order = order }) else None
+    if nat_lt rs re && nat_lt cs ce then Some (record { rs = rs; cs = cs; lye = lye; re = re; ce = ce; order = order })
+    else None
 
 -- of numbers that are there
 abbrev pub all_six : (rs cs lye re ce order : Option ℕ) → Option Progression
@@ -62,7 +64,8 @@ all_six _ _ _ _ _ _ = None
 -- of six texts
 abbrev pub volume_of : List (List ℕ) → Option Progression
 volume_of (rs ∷ cs ∷ lye ∷ re ∷ ce ∷ order ∷ []) =
-    all_six (number_from_0 32 rs) (number_from_0 16383 cs) (number_in 65535 lye) (number_in 33 re) (number_in 16384 ce) (order_named order)
+    all_six (number_from_0 32 rs) (number_from_0 16383 cs) (number_in 65535 lye) (number_in 33 re) (number_in 16384 ce)
+    (order_named order)
 volume_of _ = None
 
 unfoldable pub volume_in : List ℕ → Option Progression
@@ -76,5 +79,5 @@ volumes_in text = all_in volume_in 32 (parts_of 47 text)
 abbrev pub poc_choices : List (List ℕ × Option (List Progression))
 poc_choices = (codes "none", Some []) ∷ (codes "keep", None) ∷ []
 
-abbrev pub poc_said : List ℕ → Option (Option (List Progression))
-poc_said text = option_or (value_in poc_choices text) (option_map Some (volumes_in text))
+abbrev pub parse_poc : List ℕ → Option (Option (List Progression))
+parse_poc text = option_or (value_in poc_choices text) (option_map Some (volumes_in text))

@@ -11,7 +11,7 @@ use Rattle.jx_options.specs.Volumes.{AreVolumes}
 pub record Wanted : Type 0 where
   -- the progression order of each tile, by its number (Table A.16); none where each tile keeps that of its COD
   pub order : Option ℕ
-  -- the entries of the main header's POC (A.6.6); without entries no POC is written; none where those of the input are kept
+  -- the entries of the main header's POC (A.6.6); without entries no POC is written; none if the input's are kept
   pub changes : Option (List Progression)
   -- the precincts' exponents (Table A.21), a byte for each resolution from 0 up, of which the last stands for all above; without
   -- bytes every exponent is 15; none where precincts are kept

@@ -1,4 +1,5 @@
-//! Laws over the definitions: which texts say orders, volumes, precincts, styles and numbers, and which. They run no code.
+//! Laws over the definitions: which texts say orders, volumes, precincts, styles and numbers, and which. They run no
+//! code.
 
 ghost use Rattle.std.specs.Prelude.{◌≡◌, ◌≤◌, ◌<◌, ◌^◌, ℕ, List, Some};
 ghost use Rattle.std.specs.Fmt.{decimal};
@@ -24,7 +25,8 @@ pub fn precincts_are_spelled()
 
 /// Each list of 1 to 32 volumes is said by a text, and a text says such lists alone (ITU-T T.800, A.6.6, Table A.32).
 pub fn volumes_are_spelled()
-    ensures spelled { (entries : List Progression) → AreVolumes entries → volumes_in (volumes_text entries) ≡ Some entries }
+    ensures spelled { (entries : List Progression) → AreVolumes entries
+        → volumes_in (volumes_text entries) ≡ Some entries }
     ensures read { (text : List ℕ) (entries : List Progression) → volumes_in text ≡ Some entries → AreVolumes entries }
 {}
 

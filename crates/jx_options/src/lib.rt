@@ -24,7 +24,7 @@ pub use values::{
     SEEDS, SIDES, form_said, parts_said, precincts_said, reduce_said, rsiz_said, seed_said,
     side_said, style_said, thread_count,
 };
-pub use volumes::poc_said;
+pub use volumes::parse_poc;
 pub use work::Work;
 
 /// Where a tile is cut into tile-parts (ITU-T T.800, A.4.2).

@@ -9,7 +9,7 @@ use crate::orders::{order_help, order_said, order_words};
 use crate::values::{
     form_said, parts_said, precincts_said, reduce_said, rsiz_said, style_said, thread_count,
 };
-use crate::volumes::poc_said;
+use crate::volumes::parse_poc;
 use jx_base::{MOST_BYTES, NoMemory};
 use std::alloc::Global;
 
@@ -214,7 +214,7 @@ impl OptionName {
     {
         let good = match self {
             OptionName::Order => order_said(word).is_some(),
-            OptionName::Poc => poc_said(alloc, word)?.is_some(),
+            OptionName::Poc => parse_poc(alloc, word)?.is_some(),
             OptionName::Precincts => precincts_said(alloc, word)?.is_some(),
             OptionName::Layers => true,
             OptionName::TileParts => parts_said(word).is_some(),
@@ -370,7 +370,7 @@ impl OptionName {
     {
         match self {
             OptionName::Poc => {
-                "none, keep, or 1 to 32 volumes RS,CS,LYE,RE,CE,ORDER with / between them:\n  RS 0 to 32, CS 0 to 16383, LYE 1 to 65535, RE 1 to 33, CE 1 to 16384,\n  RS below RE, CS below CE, ORDER one of the five orders"
+                "none, keep, or 1 to 32 volumes RS,CS,LYE,RE,CE,ORDER with / between them:\n  RS 0 to 32, CS 0 to 16383, LYE 1 to 65535, RE 1 to 33, CE 1 to 16384,\n  RS below RE, CS below CE, ORDER lrcp, rlcp, rpcl, pcrl or cprl in any case"
             }
             OptionName::Precincts => {
                 "keep, max, or 1 to 33 items XxY with commas, X and Y from 0 to 15"

@@ -1,7 +1,7 @@
 //! How a codestream is to be written.
 
 ghost use Rattle.std.specs.Prelude.{◌≡◌};
-ghost use Rattle.jx_options.specs.Choices.{bytes_in, changes_in, entries_lent, lent, order_in};
+ghost use Rattle.jx_options.specs.Choices.{bytes_in, changes_in, borrowed_entries, lent, order_in};
 
 use crate::{Marks, RsizChoice};
 use jx_base::Style;
@@ -67,7 +67,15 @@ impl Model for Options {
 
     ghost Value = { Wanted };
 
-    ghost view = { λ o. record { order = order_in o.order; changes = changes_in o.poc; precincts = bytes_in o.precincts; style = o.style; layers = string_bytes o.layers; marks = o.marks; rsiz = o.rsiz } };
+    ghost view = { λ o. record {
+      order = order_in o.order;
+      changes = changes_in o.poc;
+      precincts = bytes_in o.precincts;
+      style = o.style;
+      layers = string_bytes o.layers;
+      marks = o.marks;
+      rsiz = o.rsiz;
+    } };
 }
 
 impl OrderChoice {
@@ -83,10 +91,10 @@ impl OrderChoice {
 }
 
 impl PocChoice {
-    /// The entries that the main header gets, without which no POC is written (ITU-T T.800, A.6.6). None where those of the input
-    /// are kept.
+    /// The entries that the main header gets; without entries no POC is written (ITU-T T.800, A.6.6). None if those
+    /// of the input are kept.
     pub fn entries(&self) -> Option<&[Progression]>
-        ensures { entries_lent result ≡ changes_in self.now }
+        ensures { borrowed_entries result ≡ changes_in self.now }
     {
         match self {
             PocChoice::None => Some(&[]),

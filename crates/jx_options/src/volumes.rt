@@ -8,7 +8,7 @@ ghost use Rattle.jx_base.specs.Texts.{number_in};
 ghost use Rattle.jx_options.specs.Choices.{changes_in};
 ghost use Rattle.jx_options.specs.Parts.{more_parts};
 ghost use Rattle.jx_options.specs.Values.{parts_of};
-ghost use Rattle.jx_options.specs.Volumes.{all_six, number_from_0, order_named, poc_said, volume_in, volume_of, volume_with, volumes_in};
+ghost use Rattle.jx_options.specs.Volumes.{all_six, number_from_0, order_named, parse_poc, volume_in, volume_of, volume_with, volumes_in};
 
 use crate::numbers::number_in;
 use crate::options::PocChoice;
@@ -58,7 +58,8 @@ fn number_from_0(most: u32, text: &str) -> Option<u32>
 
 /// What stands before the first comma, and behind it.
 fn at_comma<'a>(text: &'a str) -> Option<(&'a str, &'a str)>
-    ensures { MatchOption result (parts_of 44 text.entry.now ≡ text.entry.now ∷ []) (λ x. parts_of 44 text.entry.now ≡ x.0.now ∷ parts_of 44 x.1.now) }
+    ensures { MatchOption result (parts_of 44 text.entry.now ≡ text.entry.now ∷ [])
+        (λ x. parts_of 44 text.entry.now ≡ x.0.now ∷ parts_of 44 x.1.now) }
 {
     text.split_once(',')
 }
@@ -138,7 +139,8 @@ fn volume_with(rs: u32, cs: u32, lye: u32, re: u32, ce: u32, order: u8) -> Optio
 /// The entry that six texts spell.
 fn volume_of(fields: &Fields<'_>) -> Option<Progression>
     ensures { result ≡ all_six (number_from_0 32 fields.now.rs.now) (number_from_0 16383 fields.now.cs.now)
-        (number_in 65535 fields.now.lye.now) (number_in 33 fields.now.re.now) (number_in 16384 fields.now.ce.now) (order_named fields.now.order.now) }
+        (number_in 65535 fields.now.lye.now) (number_in 33 fields.now.re.now) (number_in 16384 fields.now.ce.now)
+        (order_named fields.now.order.now) }
 {
     let Some(rs) = number_from_0(32, fields.rs) else {
         return None;
@@ -193,8 +195,8 @@ fn volumes_in(alloc: Global, text: &str) -> Result<Option<Vec<Progression>>, NoM
 }
 
 /// The progression changes that a word asks for.
-pub fn poc_said(alloc: Global, word: &str) -> Result<Option<PocChoice>, NoMemory>
-    ensures { IfOk result (λ said. option_map changes_in said ≡ poc_said word.now) }
+pub fn parse_poc(alloc: Global, word: &str) -> Result<Option<PocChoice>, NoMemory>
+    ensures { IfOk result (λ said. option_map changes_in said ≡ parse_poc word.now) }
 {
     if word == "none" {
         return Ok(Some(PocChoice::None));
