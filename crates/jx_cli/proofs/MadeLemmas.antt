@@ -30,7 +30,7 @@ use Rattle.jx_options.proofs.OrderWords.{order_back, order_word}
 use Rattle.jx_base.specs.Texts.{number_in}
 use Rattle.jx_options.specs.declared.names.OptionName.TheVariants as option
 use Rattle.jx_cli.proofs.FlagLemmas.{AreAbsent, AreFlags, Flags, IsFlag, all_marked, at_rows, fault_on, flag_row, flag_words, flagged, flags_taken, flags_walked, look_all_marked, shape, walk_on}
-use Rattle.jx_cli.proofs.ValueLemmas.{precincts_back, precincts_word, reduce_back, style_back, style_word, threads_back, threads_word}
+use Rattle.jx_cli.proofs.ValueLemmas.{poc_back, poc_word, precincts_back, precincts_word, reduce_back, style_back, style_word, threads_back, threads_word}
 use Rattle.jx_cli.proofs.RowLemmas.{default_of, defaulted, has_looked, look, look_added, no_default_fault, row_with, values_added}
 
 -- ---- each flag
@@ -59,7 +59,7 @@ are_flags sop eph plt tlm = (sop_is_flag, (refl, (eph_is_flag, (refl, (plt_is_fl
 -- ---- words, and what clap makes of them
 abbrev value_words : Given → List Text → List Text
 value_words g words =
-    (codes "--order=" ++ g.order) ∷ (codes "--precincts=" ++ g.precincts) ∷ (codes "--layers=" ++ g.layers) ∷ (codes "--style=" ++ g.style) ∷ (codes "--tile-parts=" ++ g.parts)
+    (codes "--order=" ++ g.order) ∷ (codes "--poc=" ++ g.poc) ∷ (codes "--precincts=" ++ g.precincts) ∷ (codes "--layers=" ++ g.layers) ∷ (codes "--style=" ++ g.style) ∷ (codes "--tile-parts=" ++ g.parts)
     ∷ (codes "--rsiz=" ++ g.rsiz) ∷ (codes "--form=" ++ g.form) ∷ (codes "--reduce=" ++ g.reduce) ∷ (codes "--limit-bytes=" ++ g.limit_bytes) ∷ (codes "--threads=" ++ g.threads)
     ∷ (codes "--window=" ++ g.window) ∷ (codes "--window-bytes=" ++ g.window_bytes) ∷ words
 
@@ -270,6 +270,7 @@ given_for r = record {
   from = r.from;
   to = r.to;
   order = order_word r.wanted.order;
+  poc = poc_word r.wanted.changes;
   precincts = precincts_word r.wanted.precincts;
   layers = r.wanted.layers;
   style = style_word r.wanted.style;
@@ -305,12 +306,12 @@ most_back w may = number_spelled most_bytes w.most (omega arith) may.some_most m
 values_good : (r : Request) → MayBeAsked r → are_values (given_for r) ≡ true
 unfolding are_values
 values_good r may =
-    rw (order_back r.wanted.order may.order, precincts_back r.wanted.precincts may.precincts, parts_back r.wanted.marks.parts, style_back r.wanted.style may.style, rsiz_back r.wanted.rsiz, form_back r.form, reduce_back r.reduce may.reduce, limit_back r.limit may.limit, threads_back r.work.threads may.work.few_threads, window_back r.work may.work, most_back r.work may.work) refl
+    rw (order_back r.wanted.order may.order, poc_back r.wanted.changes may.changes, precincts_back r.wanted.precincts may.precincts, parts_back r.wanted.marks.parts, style_back r.wanted.style may.style, rsiz_back r.wanted.rsiz, form_back r.form, reduce_back r.reduce may.reduce, limit_back r.limit may.limit, threads_back r.work.threads may.work.few_threads, window_back r.work may.work, most_back r.work may.work) refl
 
 values_made : (r : Request) → MayBeAsked r → wanted_by (given_for r) ≡ r.wanted
 unfolding wanted_by
 values_made r may =
-    rw (order_back r.wanted.order may.order, precincts_back r.wanted.precincts may.precincts, parts_back r.wanted.marks.parts, style_back r.wanted.style may.style, rsiz_back r.wanted.rsiz) refl
+    rw (order_back r.wanted.order may.order, poc_back r.wanted.changes may.changes, precincts_back r.wanted.precincts may.precincts, parts_back r.wanted.marks.parts, style_back r.wanted.style may.style, rsiz_back r.wanted.rsiz) refl
 
 work_made : (r : Request) → MayBeAsked r → work_by (given_for r) ≡ r.work
 unfolding work_by

@@ -8,13 +8,16 @@ use Rattle.std.proofs.lemmas.List.{append_assoc}
 use Rattle.std.proofs.lemmas.Slice.Eq.{bytes_eq-Decides}
 use Rattle.std.proofs.lemmas.Fmt.{decimal_digit, decimal_injective}
 use Rattle.jx_base.specs.declared.style.Style.{Style}
+use Rattle.jx_marker.specs.declared.Progression.{Progression}
 use Rattle.jx_options.specs.Names.{reduce_said, thread_count}
 use Rattle.jx_options.specs.Values.{ArePrecincts, precincts_in, precincts_said, precincts_text, style_said, style_text, value_in, whole_choices}
+use Rattle.jx_options.specs.Volumes.{AreVolumes, poc_choices, poc_said, volumes_in, volumes_text}
 use Rattle.jx_options.specs.Wanted.{MayBeStyle}
 use Rattle.jx_options.proofs.ItemLemmas.{two_digits}
 use Rattle.jx_options.proofs.NumberLemmas.{first_digit, number_spelled}
 use Rattle.jx_options.proofs.SpellLemmas.{first_byte, precincts_spelled}
 use Rattle.jx_options.proofs.StyleLemmas.{style_spelled}
+use Rattle.jx_options.proofs.VolumeLemmas.{volumes_first, volumes_spelled}
 use Rattle.jx_cli.specs.Words.{Text}
 
 abbrev pub precincts_word : Option (List ℕ) → Text
@@ -54,6 +57,23 @@ precincts_back (Some (byte ∷ bytes)) (inl none) = absurd (omega (arith, ap len
 precincts_back (Some (byte ∷ bytes)) (inr are) =
     ap (λ o. option_or o (option_map Some (precincts_in (precincts_text (byte ∷ bytes))))) (not_listed (precincts_text (byte ∷ bytes)) (text_first byte bytes (first_byte byte bytes are.each)))
     ∙ ap (option_map Some) (precincts_spelled (byte ∷ bytes) are)
+
+-- volumes too
+abbrev pub poc_word : Option (List Progression) → Text
+poc_word None = codes "keep"
+poc_word (Some []) = codes "none"
+poc_word (Some (entry ∷ entries)) = volumes_text (entry ∷ entries)
+
+not_chosen : (text : List ℕ) → slice_index_or text 0 0 ≤ 57 → value_in poc_choices text ≡ None
+not_chosen text low = rw (no_word text (codes "none") low (omega arith), no_word text (codes "keep") low (omega arith)) refl
+
+pub poc_back : (changes : Option (List Progression)) → IfSome changes (λ entries. (entries ≡ []) ⊎ AreVolumes entries) → poc_said (poc_word changes) ≡ Some changes
+poc_back None may = refl
+poc_back (Some []) may = refl
+poc_back (Some (entry ∷ entries)) (inl none) = absurd (omega (arith, ap length none))
+poc_back (Some (entry ∷ entries)) (inr are) =
+    ap (λ o. option_or o (option_map Some (volumes_in (volumes_text (entry ∷ entries))))) (not_chosen (volumes_text (entry ∷ entries)) (volumes_first entry entries are))
+    ∙ ap (option_map Some) (volumes_spelled (entry ∷ entries) are)
 
 pub style_word : Option Style → Text
 style_word None = codes "keep"

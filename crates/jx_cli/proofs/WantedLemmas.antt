@@ -4,18 +4,21 @@ use Rattle.std.specs.Option.{option_map, option_or}
 use Rattle.std.specs.Str.{bytes_eq}
 use Rattle.std.proofs.lemmas.List.Elements.{All-nil}
 use Rattle.jx_base.specs.OrderNumbers.{IsOrderNumber}
+use Rattle.jx_marker.specs.declared.Progression.{Progression}
 use Rattle.jx_marker.specs.Ranges.{AreBytes}
 use Rattle.jx_base.specs.declared.style.Style.{Style}
 use Rattle.jx_options.specs.Wanted.{MayBeStyle, MayBeWanted}
 use Rattle.jx_options.specs.Names.{reduce_said, thread_count}
 use Rattle.jx_options.specs.Orders.{order_said}
 use Rattle.jx_options.specs.Values.{ArePrecincts, precincts_in, precincts_said, style_said, value_in, whole_choices}
+use Rattle.jx_options.specs.Volumes.{AreVolumes, poc_choices, poc_said, volumes_in}
 use Rattle.jx_cli.specs.Words.{Given, MayBeAsked, given_in, request_by, request_of, wanted_by, work_by}
 use Rattle.jx_base.specs.Limits.{most_bytes}
 use Rattle.jx_options.specs.Work.{MayBeLimit, MayBeWork}
 use Rattle.jx_options.proofs.OrderWords.{order_few}
 use Rattle.jx_options.proofs.SpellLemmas.{precincts_read}
 use Rattle.jx_options.proofs.StyleLemmas.{IsGood, style_good}
+use Rattle.jx_options.proofs.VolumeLemmas.{volumes_read}
 use Rattle.jx_options.proofs.ValueLemmas.{found}
 use Rattle.jx_base.specs.Texts.{number_in}
 use Rattle.jx_base.proofs.Texts.{number_read}
@@ -27,6 +30,29 @@ else_none P (Some v) all = all
 
 order_asked : (text : List ℕ) → IfSome (unwrap_or (order_said text) None) IsOrderNumber
 order_asked text = else_none IsOrderNumber (order_said text) (order_few text)
+
+-- no entries, or those of 1 to 32 volumes
+abbrev AreChanges : List Progression → Type 0
+AreChanges entries = (entries ≡ []) ⊎ AreVolumes entries
+
+changes_few : (text : List ℕ) → IfSome (poc_said text) (λ v. IfSome v AreChanges)
+changes_few text = by (value_in poc_choices text) (found (λ v. IfSome v AreChanges) poc_choices text (inl refl, (tt, tt))) (volumes_in text) refl
+  where
+    spelled : (o : Option (List Progression)) → volumes_in text ≡ o → IfSome (option_map Some o) (λ v. IfSome v AreChanges)
+    spelled None is = tt
+    spelled (Some entries) is = inr (volumes_read text entries is)
+
+    by : (listed : Option (Option (List Progression))) → IfSome listed (λ v. IfSome v AreChanges) → (o : Option (List Progression)) → volumes_in text ≡ o
+        → IfSome (option_or listed (option_map Some o)) (λ v. IfSome v AreChanges)
+    by None all o is = spelled o is
+    by (Some v) all o is = all
+
+changes_asked : (text : List ℕ) → IfSome (unwrap_or (poc_said text) (Some [])) AreChanges
+changes_asked text = by (poc_said text) (changes_few text)
+  where
+    by : (o : Option (Option (List Progression))) → IfSome o (λ v. IfSome v AreChanges) → IfSome (unwrap_or o (Some [])) AreChanges
+    by None all = inl refl
+    by (Some v) all = all
 
 -- no bytes, or those of 1 to 33 resolutions
 abbrev ArePerhaps : List ℕ → Type 0
@@ -61,7 +87,7 @@ style_few text = else_none MayBeStyle (style_said text) (by (style_said text) (s
 
 pub given_may_be : (g : Given) → MayBeWanted (wanted_by g)
 unfolding wanted_by
-given_may_be g = record { order = order_asked g.order; bytes = are_bytes (unwrap_or (precincts_said g.precincts) None) (precincts_asked g.precincts); style = style_few g.style }
+given_may_be g = record { order = order_asked g.order; changes = changes_asked g.poc; bytes = are_bytes (unwrap_or (precincts_said g.precincts) None) (precincts_asked g.precincts); style = style_few g.style }
 
 -- a number that is said, or the default
 abbrev pub IsWithin : ℕ → ℕ → Type 0
@@ -131,7 +157,7 @@ may_be_work words = work_may_be _
 
 request_asked : (g : Given) → MayBeAsked (request_by g)
 unfolding wanted_by
-request_asked g = record { order = order_asked g.order; precincts = precincts_asked g.precincts; style = style_few g.style; reduce = given_reduce_few g; limit = given_limit g; work = work_may_be g }
+request_asked g = record { order = order_asked g.order; changes = changes_asked g.poc; precincts = precincts_asked g.precincts; style = style_few g.style; reduce = given_reduce_few g; limit = given_limit g; work = work_may_be g }
 
 pub asked : (words : List (List ℕ)) → MayBeAsked (request_of words)
 unfolding request_of

@@ -1,5 +1,5 @@
 -- What the words of the command line ask for.
-use Rattle.std.specs.Prelude.{◌≡◌, ◌≤◌, ◌⊎◌, IfSome, true, ℕ, ◌&&◌, Bool, List, [], length, drop, slice_index_or, codes, eqb, Option, is_some, None, unwrap_or}
+use Rattle.std.specs.Prelude.{◌≡◌, ◌≤◌, ◌⊎◌, IfSome, true, ℕ, ◌&&◌, Bool, List, [], length, drop, slice_index_or, codes, eqb, Option, is_some, None, Some, unwrap_or}
 use Rattle.std.specs.Str.{bytes_eq}
 use Rattle.clap.specs.Words.{fault_of, first_of, matches_of}
 use Rattle.jx_base.specs.OrderNumbers.{IsOrderNumber}
@@ -15,6 +15,7 @@ use Rattle.jx_options.specs.declared.names.OptionName.TheVariants as option
 use Rattle.jx_options.specs.Names.{form_said, name_of, number_said, parts_said, reduce_said, rsiz_said, thread_count}
 use Rattle.jx_options.specs.Orders.{order_said}
 use Rattle.jx_options.specs.Values.{ArePrecincts, precincts_said, style_said}
+use Rattle.jx_options.specs.Volumes.{AreVolumes, poc_said}
 
 -- the bytes of a word
 abbrev pub Text : Type 0
@@ -36,6 +37,7 @@ pub record Given : Type 0 where
   pub from : Text
   pub to : Text
   pub order : Text
+  pub poc : Text
   pub precincts : Text
   pub layers : Text
   pub style : Text
@@ -74,6 +76,7 @@ given_by found = record {
   from = text_of found (codes "in") [];
   to = text_of found (codes "out") [];
   order = said_of found option.Order;
+  poc = said_of found option.Poc;
   precincts = said_of found option.Precincts;
   layers = said_of found option.Layers;
   style = said_of found option.Style;
@@ -105,11 +108,14 @@ is_work g =
 
 -- each value is one of its option's
 unfoldable pub are_values : Given → Bool
-are_values g = is_some (order_said g.order) && (is_some (precincts_said g.precincts) && (is_some (parts_said g.parts) && (is_some (style_said g.style) && (is_some (rsiz_said g.rsiz) && (is_some (form_said g.form) && (is_some (reduce_said g.reduce) && (is_some (number_said option.LimitBytes g.limit_bytes) && is_work g)))))))
+are_values g =
+    is_some (order_said g.order) && (is_some (poc_said g.poc) && (is_some (precincts_said g.precincts) && (is_some (parts_said g.parts) && (is_some (style_said g.style)
+    && (is_some (rsiz_said g.rsiz) && (is_some (form_said g.form) && (is_some (reduce_said g.reduce) && (is_some (number_said option.LimitBytes g.limit_bytes) && is_work g))))))))
 
 unfoldable pub wanted_by : Given → Wanted
 wanted_by g = record {
   order = unwrap_or (order_said g.order) None;
+  changes = unwrap_or (poc_said g.poc) (Some []);
   precincts = unwrap_or (precincts_said g.precincts) None;
   style = unwrap_or (style_said g.style) None;
   layers = g.layers;
@@ -142,10 +148,11 @@ is_good words = names_command words && (are_taken (drop 1 words) && are_values (
 unfoldable pub request_of : List Text → Request
 request_of words = request_by (given_in (drop 1 words))
 
--- a request that words can make: by one of the five orders, with the precincts of 1 to 33 resolutions and a style of five bits, without 0 to 32
+-- a request that words can make: by one of the five orders, with 1 to 32 volumes or none, the precincts of 1 to 33 resolutions and a style of five bits, without 0 to 32
 -- resolutions, of an input of 1 to 2^32 - 1 bytes; the words for the planners of layers are any text
 pub record MayBeAsked (r : Request) : Type 0 where
   pub order : IfSome r.wanted.order IsOrderNumber
+  pub changes : IfSome r.wanted.changes (λ entries. (entries ≡ []) ⊎ AreVolumes entries)
   pub precincts : IfSome r.wanted.precincts (λ bytes. (bytes ≡ []) ⊎ ArePrecincts bytes)
   pub style : IfSome r.wanted.style MayBeStyle
   pub reduce : r.reduce ≤ 32

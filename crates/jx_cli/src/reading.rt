@@ -3,7 +3,7 @@
 ghost use Rattle.std.specs.Prelude.{◌≡◌, ◌≢◌, ◌≤◌, [], true, false, IfOk, IfSome, None, Err, length, map, string_bytes};
 ghost use Rattle.clap.specs.Words.{fault_of, first_value, found_of};
 ghost use Rattle.jx_cli.specs.Command.{transcode};
-ghost use Rattle.jx_options.specs.Choices.{bytes_in, order_in};
+ghost use Rattle.jx_options.specs.Choices.{bytes_in, changes_in, order_in};
 ghost use Rattle.jx_options.specs.Wanted.{MayBeWanted};
 ghost use Rattle.jx_cli.specs.Words.{are_values, given_by, given_in, is_good, is_work, names_command, request_by, request_of, work_by};
 ghost use Rattle.jx_options.specs.Work.{MayBeLimit, MayBeWork};
@@ -14,9 +14,9 @@ use crate::{Request, WordsFault};
 use clap::ArgMatches;
 use jx_base::{NoMemory, Style};
 use jx_options::{
-    FormChoice, Marks, OptionName, Options, OrderChoice, PartChoice, PrecinctChoice, RsizChoice,
-    Work, form_said, order_said, parts_said, precincts_said, reduce_said, rsiz_said, style_said,
-    thread_count,
+    FormChoice, Marks, OptionName, Options, OrderChoice, PartChoice, PocChoice, PrecinctChoice,
+    RsizChoice, Work, form_said, order_said, parts_said, poc_said, precincts_said, reduce_said,
+    rsiz_said, style_said, thread_count,
 };
 use std::alloc::Global;
 use std::marker::Model;
@@ -27,6 +27,7 @@ struct Given<'a> {
     from: &'a str,
     to: &'a str,
     order: &'a str,
+    poc: &'a str,
     precincts: &'a str,
     layers: &'a str,
     style: &'a str,
@@ -53,6 +54,7 @@ impl<'a> Model for Given<'a> {
       from = g.from.now;
       to = g.to.now;
       order = g.order.now;
+      poc = g.poc.now;
       precincts = g.precincts.now;
       layers = g.layers.now;
       style = g.style.now;
@@ -80,6 +82,7 @@ fn given_by<'a>(matches: &ArgMatches<'a>) -> Given<'a>
         from: text_of(matches, "in", ""),
         to: text_of(matches, "out", ""),
         order: said_of(matches, OptionName::Order),
+        poc: said_of(matches, OptionName::Poc),
         precincts: said_of(matches, OptionName::Precincts),
         layers: said_of(matches, OptionName::Layers),
         style: said_of(matches, OptionName::Style),
@@ -135,6 +138,7 @@ fn made(
     alloc: Global,
     given: &Given<'_>,
     order: OrderChoice,
+    poc: PocChoice,
     precincts: PrecinctChoice,
     parts: PartChoice,
     style: Option<Style>,
@@ -149,6 +153,7 @@ fn made(
       to = given.now.to;
       wanted = record {
         order = order_in order;
+        changes = changes_in poc;
         precincts = bytes_in precincts;
         style = style;
         layers = given.now.layers;
@@ -166,6 +171,7 @@ fn made(
         to: String::from_str(alloc, given.to)?,
         options: Options {
             order,
+            poc,
             precincts,
             style,
             layers: String::from_str(alloc, given.layers)?,
@@ -216,11 +222,14 @@ fn request_by(alloc: Global, given: &Given<'_>) -> Result<Request, WordsFault>
     let Some(work) = work_by(given) else {
         return Err(WordsFault::Words);
     };
+    let Some(poc) = poc_said(alloc, given.poc)? else {
+        return Err(WordsFault::Words);
+    };
     let Some(precincts) = precincts_said(alloc, given.precincts)? else {
         return Err(WordsFault::Words);
     };
     Ok(made(
-        alloc, given, order, precincts, parts, style, rsiz, form, reduce, limit, work,
+        alloc, given, order, poc, precincts, parts, style, rsiz, form, reduce, limit, work,
     )?)
 }
 

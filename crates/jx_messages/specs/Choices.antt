@@ -68,6 +68,11 @@ abbrev pub entries_words : Text → Text
 entries_words value =
     codes "jx: --tile-parts " ++ (value ++ codes " would cut the tiles into over 2795776\n    tile-parts in all, more than --tlm can name: use another --tile-parts, or\n    none, or leave out --tlm (T.800 A.7.1; choice 10)\n")
 
+-- packets that no volume has
+abbrev pub stray_words : ℕ → Text → Text
+stray_words place value =
+    codes "jx: --poc " ++ (value ++ (codes " has no volume for some packet of tile " ++ (decimal place ++ codes ",\n    has a volume that begins above the components, or keeps more entries than\n    a POC segment holds: end with a volume of all, as 0,0,65535,33,16384,rpcl,\n    or use --poc none (T.800 A.6.6; choice 12)\n")))
+
 -- the sentence of each choice
 unfoldable pub choice_words : ℕ → ℕ → Text → Text
 choice_words number place value =
@@ -80,7 +85,8 @@ choice_words number place value =
     if number == 7 then long_words place else
     if number == 8 then factor_words place value else
     if number == 9 then levels_words (header_words place) value else
-    if number == 10 then entries_words value else profile_words place
+    if number == 10 then entries_words value else
+    if number == 12 then stray_words place value else profile_words place
 
 -- the option that each choice is about
 unfoldable pub option_words : ℕ → Text
@@ -94,4 +100,5 @@ option_words number =
     if number == 7 then codes "--tile-parts" else
     if number == 8 then codes "--reduce" else
     if number == 9 then codes "--reduce" else
-    if number == 10 then codes "--tile-parts" else codes "--rsiz"
+    if number == 10 then codes "--tile-parts" else
+    if number == 12 then codes "--poc" else codes "--rsiz"

@@ -1,6 +1,6 @@
 //! The choices in words, with what to ask instead.
 ghost use Rattle.std.specs.Prelude.{◌≡◌, IfOk, string_bytes};
-ghost use Rattle.jx_messages.specs.Choices.{causal_words, choice_words, crowded_words, cut_words, entries_words, factor_words, header_words, levels_words, long_words, misfit_words, no_rule_words, option_words, own_words, size_words, zero_words};
+ghost use Rattle.jx_messages.specs.Choices.{causal_words, choice_words, crowded_words, cut_words, entries_words, factor_words, header_words, levels_words, long_words, misfit_words, no_rule_words, option_words, own_words, size_words, stray_words, zero_words};
 ghost use Rattle.jx_messages.specs.Profile.{profile_words};
 
 use crate::profile::profile_text;
@@ -158,6 +158,15 @@ fn entries(alloc: Global, by: &str) -> Result<String, AllocError>
     )
 }
 
+/// Packets that no volume has.
+fn stray(alloc: Global, place: u32, volumes: &str) -> Result<String, AllocError>
+    ensures { IfOk result (λ text. string_bytes text ≡ stray_words place volumes.now) }
+{
+    format!(in alloc;
+        "jx: --poc {volumes} has no volume for some packet of tile {place},\n    has a volume that begins above the components, or keeps more entries than\n    a POC segment holds: end with a volume of all, as 0,0,65535,33,16384,rpcl,\n    or use --poc none (T.800 A.6.6; choice 12)\n"
+    )
+}
+
 /// The option that a choice is about.
 #[tactic(auto, unfolding(crate::specs::Choices::option_words))]
 pub(crate) fn option_of(number: u8) -> &'static str
@@ -174,11 +183,12 @@ pub(crate) fn option_of(number: u8) -> &'static str
         8 => "--reduce",
         9 => "--reduce",
         10 => "--tile-parts",
+        12 => "--poc",
         _ => "--rsiz",
     }
 }
 
-/// A choice in words, 1 to 11, with the value of the option that it is about.
+/// A choice in words, 1 to 12, with the value of the option that it is about.
 #[tactic(auto, unfolding(crate::specs::Choices::choice_words))]
 pub(crate) fn choice_text(
     alloc: Global,
@@ -199,6 +209,7 @@ pub(crate) fn choice_text(
         8 => factor(alloc, place, value),
         9 => levels(alloc, place, value),
         10 => entries(alloc, value),
+        12 => stray(alloc, place, value),
         _ => profile_text(alloc, place),
     }
 }

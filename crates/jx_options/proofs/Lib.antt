@@ -7,3 +7,5 @@ pub mod OrderWords
 pub mod SpellLemmas
 pub mod StyleLemmas
 pub mod ValueLemmas
+pub mod VolumeLemmas
+mod VolumeTexts

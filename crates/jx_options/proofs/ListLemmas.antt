@@ -1,53 +1,54 @@
--- Bytes that are put one behind another.
+-- Values that are put one behind another.
 use Rattle.std.proofs.Common.{◌≡◌, ◌≤◌, ◌∙◌, sym, ap, refl, arith, ℕ, suc, eqb, List, [], ◌∷◌, ◌++◌, length, Option, None, Some, append-nil}
 use Rattle.std.specs.Option.{option_map}
 use Rattle.std.proofs.lemmas.List.{append_assoc}
 use Rattle.std.proofs.lemmas.List.Splits.{length-slice_split}
 use Rattle.jx_options.specs.Parts.{goes_on}
-use Rattle.jx_options.specs.Values.{item_in, items_in, parts_of, precincts_in}
+use Rattle.jx_options.specs.Values.{all_in, parts_of}
 
-none_before : (o : Option (List ℕ)) → option_map (λ more. [] ++ more) o ≡ o
-none_before None = refl
-none_before (Some more) = refl
+module _ {X : Type 0} (f : List ℕ → Option X) where
+  none_before : (o : Option (List X)) → option_map (λ more. [] ++ more) o ≡ o
+  none_before None = refl
+  none_before (Some more) = refl
 
--- no byte so far
-pub begins : (done text : List ℕ) → done ≡ [] → goes_on done 33 (parts_of 44 text) ≡ precincts_in text
-unfolding precincts_in
-begins done text is = ap (λ d. goes_on d 33 (parts_of 44 text)) is ∙ none_before (items_in 33 (parts_of 44 text))
+  -- no value so far
+  pub begins : (done : List X) (room : ℕ) (texts : List (List ℕ)) → done ≡ [] → goes_on f done room texts ≡ all_in f room texts
+  begins done room texts is = ap (λ d. goes_on f d room texts) is ∙ none_before (all_in f room texts)
 
--- a text that spells none
-pub refused : (done part : List ℕ) (parts more : List (List ℕ)) (room k : ℕ) (all : Option (List ℕ)) → room ≡ suc k → None ≡ item_in part → parts ≡ part ∷ more → goes_on done room parts ≡ all → None ≡ all
-unfolding items_in
-refused done part parts more room k all left none is so_far =
-    let front : goes_on done (suc k) (part ∷ more) ≡ None = rw (← none) refl in
-    sym front ∙ ap (goes_on done (suc k)) (sym is) ∙ ap (λ n. goes_on done n parts) (sym left) ∙ so_far
+  -- a text that has none
+  pub refused : (done : List X) (part : List ℕ) (parts more : List (List ℕ)) (room k : ℕ) (all : Option (List X)) → room ≡ suc k → None ≡ f part → parts ≡ part ∷ more
+      → goes_on f done room parts ≡ all → None ≡ all
+  unfolding all_in
+  refused done part parts more room k all left none is so_far =
+      let front : goes_on f done (suc k) (part ∷ more) ≡ None = rw (← none) refl in
+      sym front ∙ ap (goes_on f done (suc k)) (sym is) ∙ ap (λ n. goes_on f done n parts) (sym left) ∙ so_far
 
-both_fronts : (done next : List ℕ) (byte : ℕ) (o : Option (List ℕ)) → next ≡ done ++ byte ∷ [] → option_map (λ more. next ++ more) o ≡ option_map (λ more. done ++ more) (option_map (λ more. byte ∷ more) o)
-both_fronts done next byte None is = refl
-both_fronts done next byte (Some more) is = ap Some (ap (λ d. d ++ more) is ∙ append_assoc done (byte ∷ []) more)
+  both_fronts : (done next : List X) (x : X) (o : Option (List X)) → next ≡ done ++ x ∷ [] → option_map (λ more. next ++ more) o ≡ option_map (λ more. done ++ more) (option_map (λ more. x ∷ more) o)
+  both_fronts done next x None is = refl
+  both_fronts done next x (Some more) is = ap Some (ap (λ d. d ++ more) is ∙ append_assoc done (x ∷ []) more)
 
--- one that spells a byte
-pub put_on : (done next part : List ℕ) (byte : ℕ) (parts more : List (List ℕ)) (room k : ℕ) (all : Option (List ℕ)) → room ≡ suc k → Some byte ≡ item_in part → next ≡ done ++ byte ∷ [] → parts ≡ part ∷ more → goes_on done room parts ≡ all
-    → goes_on next k more ≡ all
-unfolding items_in
-put_on done next part byte parts more room k all left some next_is is so_far =
-    let front : goes_on done (suc k) (part ∷ more) ≡ option_map (λ tail. done ++ tail) (option_map (λ tail. byte ∷ tail) (items_in k more)) = rw (← some) refl in
-    both_fronts done next byte (items_in k more) next_is ∙ sym front ∙ ap (goes_on done (suc k)) (sym is) ∙ ap (λ n. goes_on done n parts) (sym left) ∙ so_far
+  -- one that has a value
+  pub put_on : (done next : List X) (part : List ℕ) (x : X) (parts more : List (List ℕ)) (room k : ℕ) (all : Option (List X)) → room ≡ suc k → Some x ≡ f part → next ≡ done ++ x ∷ []
+      → parts ≡ part ∷ more → goes_on f done room parts ≡ all → goes_on f next k more ≡ all
+  unfolding all_in
+  put_on done next part x parts more room k all left some next_is is so_far =
+      let front : goes_on f done (suc k) (part ∷ more) ≡ option_map (λ tail. done ++ tail) (option_map (λ tail. x ∷ tail) (all_in f k more)) = rw (← some) refl in
+      both_fronts done next x (all_in f k more) next_is ∙ sym front ∙ ap (goes_on f done (suc k)) (sym is) ∙ ap (λ n. goes_on f done n parts) (sym left) ∙ so_far
 
--- the last
-pub ends : (done : List ℕ) (k : ℕ) (all : Option (List ℕ)) → goes_on done k [] ≡ all → Some done ≡ all
-unfolding items_in
-ends done k all so_far = ap Some (sym (append-nil done)) ∙ so_far
+  -- the last
+  pub ends : (done : List X) (k : ℕ) (all : Option (List X)) → goes_on f done k [] ≡ all → Some done ≡ all
+  unfolding all_in
+  ends done k all so_far = ap Some (sym (append-nil done)) ∙ so_far
 
--- no room for more
-full : (done : List ℕ) (parts : List (List ℕ)) (all : Option (List ℕ)) → 1 ≤ length parts → goes_on done 0 parts ≡ all → None ≡ all
-unfolding items_in
-full done [] all some so_far = absurd (omega arith)
-full done (part ∷ parts) all some so_far = so_far
+  -- no room for more
+  full : (done : List X) (parts : List (List ℕ)) (all : Option (List X)) → 1 ≤ length parts → goes_on f done 0 parts ≡ all → None ≡ all
+  unfolding all_in
+  full done [] all some so_far = absurd (omega arith)
+  full done (part ∷ parts) all some so_far = so_far
 
-pub some_part : (text : List ℕ) → 1 ≤ length (parts_of 44 text)
+pub some_part : (c : ℕ) (text : List ℕ) → 1 ≤ length (parts_of c text)
 unfolding parts_of
-some_part text = omega (arith, length-slice_split (λ b. eqb b 44) text)
+some_part c text = omega (arith, length-slice_split (λ b. eqb b c) text)
 
-pub too_many : (done text : List ℕ) (room : ℕ) (all : Option (List ℕ)) → room ≡ 0 → goes_on done room (parts_of 44 text) ≡ all → None ≡ all
-too_many done text room all none so_far = full done (parts_of 44 text) all (some_part text) (ap (λ n. goes_on done n (parts_of 44 text)) (sym none) ∙ so_far)
+pub too_many : {X : Type 0} (f : List ℕ → Option X) (c : ℕ) (done : List X) (text : List ℕ) (room : ℕ) (all : Option (List X)) → room ≡ 0 → goes_on f done room (parts_of c text) ≡ all → None ≡ all
+too_many f c done text room all none so_far = full f done (parts_of c text) all (some_part c text) (ap (λ n. goes_on f done n (parts_of c text)) (sym none) ∙ so_far)

@@ -12,7 +12,7 @@ use Rattle.std.proofs.lemmas.List.Splits.{join_with_byte-slice_split, slice_spli
 use Rattle.std.proofs.lemmas.Slice.Eq.{bytes_eq-Decides}
 use Rattle.std.proofs.lemmas.Option.{none-some, same_Some}
 use Rattle.jx_marker.specs.Ranges.{AreBytes}
-use Rattle.jx_options.specs.Values.{ArePrecincts, in_front, item_in, item_text, items_in, parts_of, precincts_in, precincts_text}
+use Rattle.jx_options.specs.Values.{ArePrecincts, all_in, in_front, item_in, item_text, items_in, parts_of, precincts_in, precincts_text}
 use Rattle.jx_options.proofs.ItemLemmas.{two_digits}
 use Rattle.jx_options.proofs.ListLemmas.{some_part}
 use Rattle.jx_base.proofs.Lists.{find_first, find_in}
@@ -87,7 +87,7 @@ parts_spelled byte (next ∷ bytes) each =
     ∙ ap (λ parts. item_text byte ∷ parts) (parts_spelled next bytes (rest_bytes byte (next ∷ bytes) each))
 
 items_spelled : (room : ℕ) (bytes : List ℕ) → AreBytes bytes → length bytes ≤ room → items_in room (map item_text bytes) ≡ Some bytes
-unfolding items_in
+unfolding all_in
 items_spelled room [] each few = refl
 items_spelled zero (byte ∷ bytes) each few = absurd (omega (arith, few))
 items_spelled (suc room) (byte ∷ bytes) each few =
@@ -102,7 +102,7 @@ record IsRead (room : ℕ) (parts : List (List ℕ)) (bytes : List ℕ) : Type 0
   parts_are : parts ≡ map item_text bytes
 
 items_read : (room : ℕ) (parts : List (List ℕ)) (bytes : List ℕ) → items_in room parts ≡ Some bytes → IsRead room parts bytes
-unfolding items_in
+unfolding all_in
 items_read room [] bytes e = subst (IsRead room []) (same_Some [] bytes e) (record { each = All-nil (λ b. b < 256); few = omega arith; parts_are = refl })
 items_read zero (text ∷ parts) bytes e = absurd (none-some bytes e)
 items_read (suc room) (text ∷ parts) bytes e = with_byte (item_in text) refl e (λ more f. items_read room parts more f)
@@ -137,4 +137,4 @@ unfolding precincts_in
 precincts_read text bytes e =
     let r = items_read 33 (parts_of 44 text) bytes e in
     let many : length bytes ≡ length (parts_of 44 text) = sym (length-map bytes item_text) ∙ ap length (sym r.parts_are) in
-    (record { some = omega (arith, many, some_part text); few = r.few; each = r.each }, sym (joined_parts text) ∙ ap (join_with_byte 44) r.parts_are)
+    (record { some = omega (arith, many, some_part 44 text); few = r.few; each = r.each }, sym (joined_parts text) ∙ ap (join_with_byte 44) r.parts_are)

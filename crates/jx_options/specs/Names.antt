@@ -15,11 +15,12 @@ use Rattle.jx_options.specs.declared.names.OptionName.{OptionName}
 use Rattle.jx_options.specs.declared.names.OptionName.TheVariants as name
 use Rattle.jx_options.specs.Orders.{order_help, order_said, order_words}
 use Rattle.jx_options.specs.Values.{precincts_said, style_said, value_in}
+use Rattle.jx_options.specs.Volumes.{parse_poc}
 
 -- those of `transcode`, in the order of its help
 abbrev pub transcode_names : List OptionName
 transcode_names =
-    name.Order ∷ name.Precincts ∷ name.Layers ∷ name.TileParts ∷ name.Sop ∷ name.Eph ∷ name.Plt ∷ name.Tlm
+    name.Order ∷ name.Poc ∷ name.Precincts ∷ name.Layers ∷ name.TileParts ∷ name.Sop ∷ name.Eph ∷ name.Plt ∷ name.Tlm
     ∷ name.Rsiz ∷ name.Form ∷ name.Style ∷ name.Reduce ∷ name.LimitBytes ∷ name.Threads ∷ name.Window ∷ name.WindowBytes ∷ []
 
 abbrev pub boxes_names : List OptionName
@@ -36,6 +37,7 @@ all_names = transcode_names ++ name.CompareThreads ∷ name.Json ∷ []
 
 abbrev pub name_of : OptionName → List ℕ
 name_of name.Order = codes "order"
+name_of name.Poc = codes "poc"
 name_of name.Precincts = codes "precincts"
 name_of name.Layers = codes "layers"
 name_of name.TileParts = codes "tile-parts"
@@ -57,6 +59,7 @@ name_of name.Json = codes "json"
 -- a flag that is among the words has the text `true`
 abbrev pub default_of : OptionName → List ℕ
 default_of name.Order = codes "keep"
+default_of name.Poc = codes "none"
 default_of name.Precincts = codes "keep"
 default_of name.Layers = codes "keep"
 default_of name.TileParts = codes "none"
@@ -142,6 +145,7 @@ listed_of _ = []
 -- a word is a value of an option: to the planners of layers any text may be one, and a flag has none
 abbrev pub is_value : OptionName → List ℕ → Bool
 is_value name.Order word = is_some (order_said word)
+is_value name.Poc word = is_some (parse_poc word)
 is_value name.Precincts word = is_some (precincts_said word)
 is_value name.Layers word = true
 is_value name.TileParts word = is_some (parts_said word)
@@ -177,6 +181,7 @@ heading_of _ = codes "How the file is packed"
 -- the word that stands for a value; a flag has none
 abbrev pub placeholder_of : OptionName → List ℕ
 placeholder_of name.Order = codes "ORDER"
+placeholder_of name.Poc = codes "VOLUMES"
 placeholder_of name.Precincts = codes "LIST"
 placeholder_of name.Layers = codes "RULE"
 placeholder_of name.TileParts = codes "BY"
@@ -194,6 +199,7 @@ placeholder_of _ = []
 -- what it does, its values and its default, and an example
 abbrev pub what_of : OptionName → List ℕ
 what_of name.Order = order_help
+what_of name.Poc = codes "none, keep, or volumes with / between them, each\nRS,CS,LYE,RE,CE,ORDER: the packets of a volume\nstand together, in its order\ndefault none; as in --poc 0,0,1,33,3,rpcl"
 what_of name.Precincts = codes "keep, max, or exponents from resolution 0 up:\n7x7 is 128 by 128, the last one is for all above\ndefault keep; as in --precincts 7x7,8x8"
 what_of name.Layers = codes "keep, one, cuts:N,N.. (a new layer at each of\nthese coding passes, 1 to 220, rising), or\nplanes:N (one for each N bit-planes, 1 to 74)\ndefault keep; as in --layers planes:2"
 what_of name.TileParts = codes "none, r, l or c: a new tile-part for each\nresolution, layer or component\ndefault none; as in --tile-parts r"
@@ -224,6 +230,7 @@ range_of _ = []
 
 -- what a value has to be that is neither a number, nor listed, nor any text
 abbrev pub form_of : OptionName → List ℕ
+form_of name.Poc = codes "none, keep, or 1 to 32 volumes RS,CS,LYE,RE,CE,ORDER with / between them:\n  RS 0 to 32, CS 0 to 16383, LYE 1 to 65535, RE 1 to 33, CE 1 to 16384,\n  RS below RE, CS below CE, ORDER lrcp, rlcp, rpcl, pcrl or cprl in any case"
 form_of name.Precincts = codes "keep, max, or 1 to 33 items XxY with commas, X and Y from 0 to 15"
 form_of name.Style = codes "keep, none, or names with + between them, each at most once:\n  bypass, reset, terminate, causal, segment"
 form_of name.Threads = codes "auto, or a number from 1 to 64, without a sign or leading zeros"

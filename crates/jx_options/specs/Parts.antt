@@ -1,7 +1,7 @@
 -- Texts that are cut.
 use Rattle.std.specs.Prelude.{ℕ, ◌+◌, ◌==◌, bit_and, bit_or, List, [], ◌∷◌, length, Option, None, Some, if◌then◌else◌, ◌++◌, option_and_then, option_map}
 use Rattle.std.specs.Borrow.{Bor}
-use Rattle.jx_options.specs.Values.{items_in, parts_of, style_names, value_in}
+use Rattle.jx_options.specs.Values.{all_in, parts_of, style_names, value_in}
 
 -- what stands between the separators of what is left of a text
 abbrev pub more_parts : ℕ → Option (Bor (List ℕ)) → List (List ℕ)
@@ -13,9 +13,9 @@ abbrev pub left_of : Option (Bor (List ℕ)) → ℕ
 left_of None = 0
 left_of (Some rest) = length rest.now + 1
 
--- bytes, and those that are spelled by further texts, where each spells one and there are so many at most
-abbrev pub goes_on : List ℕ → ℕ → List (List ℕ) → Option (List ℕ)
-goes_on done room texts = option_map (λ more. done ++ more) (items_in room texts)
+-- values, and those of further texts, where each text has one and there are so many at most
+abbrev pub goes_on : {X : Type 0} → (List ℕ → Option X) → List X → ℕ → List (List ℕ) → Option (List X)
+goes_on value_of done room texts = option_map (λ more. done ++ more) (all_in value_of room texts)
 
 -- some bits and one that isn't among them
 abbrev pub with_bit : ℕ → Option ℕ → Option ℕ

@@ -37,16 +37,20 @@ pub record ArePrecincts (bytes : List ℕ) : Type 0 where
 unfoldable pub item_in : List ℕ → Option ℕ
 item_in text = find (λ byte. bytes_eq text (item_text byte)) (range_with_len 0 256)
 
--- a number in front of others, where it and they are there
-abbrev pub in_front : Option ℕ → Option (List ℕ) → Option (List ℕ)
+-- a value in front of others, where it and they are there
+abbrev pub in_front : {X : Type 0} → Option X → Option (List X) → Option (List X)
 in_front None more = None
-in_front (Some n) more = option_map (λ list. n ∷ list) more
+in_front (Some x) more = option_map (λ list. x ∷ list) more
 
--- the bytes that are spelled by some texts, where each spells one and there are so many at most
-unfoldable pub items_in : ℕ → List (List ℕ) → Option (List ℕ)
-items_in room [] = Some []
-items_in zero (text ∷ texts) = None
-items_in (suc room) (text ∷ texts) = in_front (item_in text) (items_in room texts)
+-- the values of some texts, where each text has one and there are so many at most
+unfoldable pub all_in : {X : Type 0} → (List ℕ → Option X) → ℕ → List (List ℕ) → Option (List X)
+all_in value_of room [] = Some []
+all_in value_of zero (text ∷ texts) = None
+all_in value_of (suc room) (text ∷ texts) = in_front (value_of text) (all_in value_of room texts)
+
+-- the bytes that are spelled by some texts
+abbrev pub items_in : ℕ → List (List ℕ) → Option (List ℕ)
+items_in room texts = all_in item_in room texts
 
 -- what stands in a text between the bytes that separate
 unfoldable pub parts_of : ℕ → List ℕ → List (List ℕ)

@@ -1,4 +1,5 @@
-//! Laws over the definitions: which texts say orders, precincts, styles and numbers, and which. They run no code.
+//! Laws over the definitions: which texts say orders, volumes, precincts, styles and numbers, and which. They run no
+//! code.
 
 ghost use Rattle.std.specs.Prelude.{◌≡◌, ◌≤◌, ◌<◌, ◌^◌, ℕ, List, Some};
 ghost use Rattle.std.specs.Fmt.{decimal};
@@ -8,6 +9,8 @@ ghost use Rattle.jx_options.specs.Orders.{order_said, word_named};
 ghost use Rattle.jx_options.specs.Wanted.{MayBeStyle};
 ghost use Rattle.jx_options.specs.Values.{ArePrecincts, HasNamed, parts_of, precincts_in, precincts_text, style_said, style_text};
 ghost use Rattle.jx_base.specs.Texts.{number_in};
+ghost use Rattle.jx_marker.specs.declared.Progression.{Progression};
+ghost use Rattle.jx_options.specs.Volumes.{AreVolumes, volumes_in, volumes_text};
 
 /// Each progression order has a name, which in small letters is the word that asks for it (ITU-T T.800, Table A.16).
 pub fn orders_are_named()
@@ -18,6 +21,13 @@ pub fn orders_are_named()
 pub fn precincts_are_spelled()
     ensures spelled { (bytes : List ℕ) → ArePrecincts bytes → precincts_in (precincts_text bytes) ≡ Some bytes }
     ensures read { (text bytes : List ℕ) → precincts_in text ≡ Some bytes → ArePrecincts bytes × (text ≡ precincts_text bytes) }
+{}
+
+/// Each list of 1 to 32 volumes is said by a text, and a text says such lists alone (ITU-T T.800, A.6.6, Table A.32).
+pub fn volumes_are_spelled()
+    ensures spelled { (entries : List Progression) → AreVolumes entries
+        → volumes_in (volumes_text entries) ≡ Some entries }
+    ensures read { (text : List ℕ) (entries : List Progression) → volumes_in text ≡ Some entries → AreVolumes entries }
 {}
 
 /// Each style of five bits is said by a text; the style that a text says is such a style, with the bits that it names (ITU-T T.800,

@@ -13,16 +13,18 @@ mod parts;
 mod precincts;
 mod styles;
 mod values;
+mod volumes;
 mod work;
 
 pub use names::OptionName;
 pub use numbers::{long_number_in, number_in};
-pub use options::{Options, OrderChoice, PrecinctChoice};
+pub use options::{Options, OrderChoice, PocChoice, PrecinctChoice};
 pub use orders::{order_name, order_said};
 pub use values::{
     SEEDS, SIDES, form_said, parts_said, precincts_said, reduce_said, rsiz_said, seed_said,
     side_said, style_said, thread_count,
 };
+pub use volumes::parse_poc;
 pub use work::Work;
 
 /// Where a tile is cut into tile-parts (ITU-T T.800, A.4.2).

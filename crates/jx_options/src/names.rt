@@ -9,6 +9,7 @@ use crate::orders::{order_help, order_said, order_words};
 use crate::values::{
     form_said, parts_said, precincts_said, reduce_said, rsiz_said, style_said, thread_count,
 };
+use crate::volumes::parse_poc;
 use jx_base::{MOST_BYTES, NoMemory};
 use std::alloc::Global;
 
@@ -17,6 +18,8 @@ use std::alloc::Global;
 pub enum OptionName {
     /// The order of the packets (ITU-T T.800, A.6.1, B.12).
     Order,
+    /// The progression order changes (A.6.6).
+    Poc,
     /// The precincts (A.6.1, Table A.21).
     Precincts,
     /// The quality layers (B.10).
@@ -60,6 +63,7 @@ impl OptionName {
     {
         &[
             OptionName::Order,
+            OptionName::Poc,
             OptionName::Precincts,
             OptionName::Layers,
             OptionName::TileParts,
@@ -86,6 +90,7 @@ impl OptionName {
     {
         &[
             OptionName::Order,
+            OptionName::Poc,
             OptionName::Precincts,
             OptionName::Layers,
             OptionName::TileParts,
@@ -131,6 +136,7 @@ impl OptionName {
     {
         match self {
             OptionName::Order => "order",
+            OptionName::Poc => "poc",
             OptionName::Precincts => "precincts",
             OptionName::Layers => "layers",
             OptionName::TileParts => "tile-parts",
@@ -161,7 +167,7 @@ impl OptionName {
             | OptionName::Layers
             | OptionName::Form
             | OptionName::Style => "keep",
-            OptionName::TileParts => "none",
+            OptionName::Poc | OptionName::TileParts => "none",
             OptionName::Sop
             | OptionName::Eph
             | OptionName::Plt
@@ -208,6 +214,7 @@ impl OptionName {
     {
         let good = match self {
             OptionName::Order => order_said(word).is_some(),
+            OptionName::Poc => parse_poc(alloc, word)?.is_some(),
             OptionName::Precincts => precincts_said(alloc, word)?.is_some(),
             OptionName::Layers => true,
             OptionName::TileParts => parts_said(word).is_some(),
@@ -250,6 +257,7 @@ impl OptionName {
     {
         match self {
             OptionName::Order => "ORDER",
+            OptionName::Poc => "VOLUMES",
             OptionName::Precincts => "LIST",
             OptionName::Layers => "RULE",
             OptionName::TileParts => "BY",
@@ -276,6 +284,9 @@ impl OptionName {
     {
         match self {
             OptionName::Order => order_help(),
+            OptionName::Poc => {
+                "none, keep, or volumes with / between them, each\nRS,CS,LYE,RE,CE,ORDER: the packets of a volume\nstand together, in its order\ndefault none; as in --poc 0,0,1,33,3,rpcl"
+            }
             OptionName::Precincts => {
                 "keep, max, or exponents from resolution 0 up:\n7x7 is 128 by 128, the last one is for all above\ndefault keep; as in --precincts 7x7,8x8"
             }
@@ -358,6 +369,9 @@ impl OptionName {
         ensures { result.now ≡ form_of self }
     {
         match self {
+            OptionName::Poc => {
+                "none, keep, or 1 to 32 volumes RS,CS,LYE,RE,CE,ORDER with / between them:\n  RS 0 to 32, CS 0 to 16383, LYE 1 to 65535, RE 1 to 33, CE 1 to 16384,\n  RS below RE, CS below CE, ORDER lrcp, rlcp, rpcl, pcrl or cprl in any case"
+            }
             OptionName::Precincts => {
                 "keep, max, or 1 to 33 items XxY with commas, X and Y from 0 to 15"
             }

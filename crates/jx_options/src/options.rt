@@ -1,10 +1,11 @@
 //! How a codestream is to be written.
 
 ghost use Rattle.std.specs.Prelude.{◌≡◌};
-ghost use Rattle.jx_options.specs.Choices.{bytes_in, lent, order_in};
+ghost use Rattle.jx_options.specs.Choices.{bytes_in, changes_in, borrowed_entries, lent, order_in};
 
 use crate::{Marks, RsizChoice};
 use jx_base::Style;
+use jx_marker::Progression;
 use std::marker::Model;
 
 /// The progression order of the written file (ITU-T T.800, Table A.16).
@@ -14,6 +15,17 @@ pub enum OrderChoice {
     Keep,
     /// This order's number in each tile, 0 to 4.
     Order(u8),
+}
+
+/// The progression order changes of the written file (POC; ITU-T T.800, A.6.6).
+#[derive(Drop)]
+pub enum PocChoice {
+    /// None: each tile has its packets in the one order of its COD.
+    None,
+    /// Those of the input, in the main header and in each tile's.
+    Keep,
+    /// These entries in the main header, 1 to 32, and none in the tiles.
+    Volumes(Vec<Progression>),
 }
 
 /// The precincts of the written file (ITU-T T.800, Table A.21).
@@ -33,6 +45,8 @@ pub enum PrecinctChoice {
 pub struct Options {
     /// The order of the packets.
     pub order: OrderChoice,
+    /// The progression order changes.
+    pub poc: PocChoice,
     /// The precincts.
     pub precincts: PrecinctChoice,
     /// The style in which all code-blocks are coded (ITU-T T.800, Table A.19), with bits 4, 6 and 7 clear; none where each component
@@ -48,12 +62,20 @@ pub struct Options {
 
 impl Model for Options {
     ghost use Rattle.std.specs.String.{string_bytes};
-    ghost use Rattle.jx_options.specs.Choices.{bytes_in, order_in};
+    ghost use Rattle.jx_options.specs.Choices.{bytes_in, changes_in, order_in};
     ghost use Rattle.jx_options.specs.Wanted.{Wanted};
 
     ghost Value = { Wanted };
 
-    ghost view = { λ o. record { order = order_in o.order; precincts = bytes_in o.precincts; style = o.style; layers = string_bytes o.layers; marks = o.marks; rsiz = o.rsiz } };
+    ghost view = { λ o. record {
+      order = order_in o.order;
+      changes = changes_in o.poc;
+      precincts = bytes_in o.precincts;
+      style = o.style;
+      layers = string_bytes o.layers;
+      marks = o.marks;
+      rsiz = o.rsiz;
+    } };
 }
 
 impl OrderChoice {
@@ -64,6 +86,20 @@ impl OrderChoice {
         match self {
             OrderChoice::Keep => None,
             OrderChoice::Order(number) => Some(number),
+        }
+    }
+}
+
+impl PocChoice {
+    /// The entries that the main header gets; without entries no POC is written (ITU-T T.800, A.6.6). None if those
+    /// of the input are kept.
+    pub fn entries(&self) -> Option<&[Progression]>
+        ensures { borrowed_entries result ≡ changes_in self.now }
+    {
+        match self {
+            PocChoice::None => Some(&[]),
+            PocChoice::Keep => None,
+            PocChoice::Volumes(entries) => Some(entries),
         }
     }
 }

@@ -1,5 +1,5 @@
 -- Of a rule and a stream there is an answer: nothing is in the way of its plan, or a cause is.
-use Rattle.std.proofs.Common.{◌≡◌, ◌<◌, ◌≤◌, ◌⊎◌, ◌^◌, ap, refl, arith, ℕ, suc, List, length, inl, inr, slice_index_or, Option, None, Some}
+use Rattle.std.proofs.Common.{◌≡◌, ◌<◌, ◌≤◌, ◌⊎◌, ◌^◌, ap, refl, arith, ℕ, suc, Bool, true, false, List, length, inl, inr, slice_index_or, Option, None, Some}
 use Rattle.std.proofs.lemmas.Bool.{cases_eq, cases_lt}
 use Rattle.jx_base.specs.declared.pieces.Block.{Block}
 use Rattle.jx_geom.specs.declared.shape.CompShape.{CompShape}
@@ -14,7 +14,8 @@ use Rattle.jx_codestream.specs.First.{tile_number}
 use Rattle.jx_codestream.specs.InRange.{StreamInRange}
 use Rattle.jx_codestream.specs.Shapes.{geometry, layers_of, shapes_of, tile_at}
 use Rattle.jx_tile.specs.Totals.{packet_total, totals_fault}
-use Rattle.jx_tier2_reader.proofs.CoverEither.{search_first}
+use Rattle.jx_tier2_reader.proofs.CoverEither.{cover_or, search_first}
+use Rattle.jx_codestream.proofs.RangeLemmas.{shapes_length}
 use Rattle.jx_tile.proofs.TotalLemmas.{geometry_fits}
 use Rattle.jx_options.specs.declared.PartChoice.{PartChoice}
 use Rattle.jx_plan.specs.declared.faults.PlanFault.{PlanFault}
@@ -34,6 +35,9 @@ use Rattle.jx_plan.proofs.LayerLaws.{CrowdLaws}
 use Rattle.jx_plan.proofs.PartedLemmas.{entries_or}
 use Rattle.jx_plan.proofs.PlanLemmas.{headers_in_range, headers_pass}
 use Rattle.jx_plan.proofs.StreamLemmas.{tile_number_stays}
+use Rattle.jx_plan.specs.Changes.{has_long, has_outside, main_order}
+use Rattle.jx_plan.specs.Strays.{HasNoStray, HasNoStrayIn, IsStray}
+use Rattle.jx_tile.specs.Covered.{IsWhole}
 
 abbrev Or : Type 0 → Type 0
 Or P = P ⊎ (P → ⊥)
@@ -102,6 +106,34 @@ parted_or parts s range none =
       | inr some ↦ inr (some.0, record { inside = some.1.0; many = some.1.1.1; lowest = some.1.1.0 })
     ]
 
+whole_or : (s : Stream) (t : ℕ) → StreamInRange s → totals_fault s ≡ None → t < tile_number s.siz → IsWhole s t ⊎ (IsWhole s t → ⊥)
+whole_or s t range none inside =
+    elim (cover_or (geometry s t) (layers_of s t) (tile_at s t).progressions (omega (arith, shapes_length s t, range.few_comps))) [
+      | inl whole ↦ inl whole
+      | inr lacks ↦ inr (λ whole. lacks.2 (whole lacks.0 lacks.1))
+    ]
+
+module _ (s : Stream) (w : Wanted) (layers : ℕ) (range : StreamInRange (headers_with w layers s)) (none : totals_fault (headers_with w layers s) ≡ None) where
+  tile_stray : (t : ℕ) → t < tile_number s.siz → HasNoStrayIn s w layers t ⊎ (HasNoStrayIn s w layers t → ⊥)
+  tile_stray t inside = by (has_long (length s.siz.comps) w.changes (main_order s.main) (tile_at s t)) refl
+    where
+      by : (long : Bool) → has_long (length s.siz.comps) w.changes (main_order s.main) (tile_at s t) ≡ long → HasNoStrayIn s w layers t ⊎ (HasNoStrayIn s w layers t → ⊥)
+      by true e = inr (λ placed. let f = placed.room in absurd (cc))
+      by false e = elim (whole_or (headers_with w layers s) t range none (omega (arith, inside, tile_number_stays (with_layers w layers) s))) [
+        | inl whole ↦ inl (record { room = e; whole = whole })
+        | inr not ↦ inr (λ placed. not placed.whole)
+      ]
+
+  stray_or : HasNoStray s w layers ⊎ ((place : ℕ) × IsStray s w layers place)
+  stray_or = by (has_outside (length s.siz.comps) w.changes) refl
+    where
+      by : (out : Bool) → has_outside (length s.siz.comps) w.changes ≡ out → HasNoStray s w layers ⊎ ((place : ℕ) × IsStray s w layers place)
+      by true e = inr (0, inl (e, refl))
+      by false e = elim (search_first (HasNoStrayIn s w layers) (λ t. HasNoStrayIn s w layers t → ⊥) (tile_number s.siz) tile_stray) [
+        | inl all ↦ inl (record { comps = e; each = all })
+        | inr some ↦ inr (some.0, inr (e, record { inside = some.1.0; stray = some.1.1.1; lowest = some.1.1.0 }))
+      ]
+
 module _ (crowds : CrowdLaws) (s : Stream) (blocks : List Block) (w : Wanted) (may : MayBePlanned s blocks) (wanted : MayBeWanted w) where
   abbrev Caused : Option Rule → Type 0
   Caused o = (e : PlanFault) × (e ≡ fault.NoMemory → ⊥) × HasPlanCause o s blocks w e
@@ -119,38 +151,46 @@ module _ (crowds : CrowdLaws) (s : Stream) (blocks : List Block) (w : Wanted) (m
     abbrev AreFew : Type 0
     AreFew = (t : ℕ) → t < tile_number s.siz → HasFewParts w.marks.parts made t
 
-    late : packet_total made ≤ most_packets → IsCrowded r s blocks None → (number place : ℕ) → IsLate s w layers number place → Answer (Some r)
-    late few uncrowded number place cause = inr (fault.Choice number place, (λ e. absurd (cc)), inr (whole, inr (inr (record { cause = cause; uncrowded = uncrowded }))))
+    late : IsCrowded r s blocks None → (number place : ℕ) → IsLate s w layers number place → Answer (Some r)
+    late uncrowded number place cause = inr (fault.Choice number place, (λ e. absurd (cc)), inr (whole, inr (inr (inr (record { cause = cause; uncrowded = uncrowded })))))
 
-    by_claim : packet_total made ≤ most_packets → IsCrowded r s blocks None → AreFew → HasFewEntries w.marks made → (first : Option ℕ) → unclaimed w.marks made ≡ first → Answer (Some r)
-    by_claim few uncrowded parts entries None met =
-        inl (record { whole = whole; free = record { fits = fits; few = few; parts = parts; entries = entries; claimed = met }; uncrowded = uncrowded })
-    by_claim few uncrowded parts entries (Some place) first =
-        late few uncrowded 11 place (inr (inr (refl, record { fits = fits; few = few; parts = parts; entries = entries; first = first })))
+    module _ (few : packet_total made ≤ most_packets) (range : StreamInRange made) (pass : totals_fault made ≡ None) where
+      by_claim : HasNoStray s w layers → IsCrowded r s blocks None → AreFew → HasFewEntries w.marks made → (first : Option ℕ) → unclaimed w.marks made ≡ first → Answer (Some r)
+      by_claim placed uncrowded parts entries None met =
+          inl (record { whole = whole; free = record { fits = fits; few = few; placed = placed; parts = parts; entries = entries; claimed = met }; uncrowded = uncrowded })
+      by_claim placed uncrowded parts entries (Some place) first =
+          late uncrowded 11 place (inr (inr (refl, record { fits = fits; few = few; placed = placed; parts = parts; entries = entries; first = first })))
 
-    by_entries : packet_total made ≤ most_packets → IsCrowded r s blocks None → AreFew → StreamInRange made → totals_fault made ≡ None → Answer (Some r)
-    by_entries few uncrowded parts range pass = elim (entries_or w.marks made range pass) [
-      | inl entries ↦ by_claim few uncrowded parts entries (unclaimed w.marks made) refl
-      | inr many ↦ late few uncrowded 10 0 (inr (inl (refl, record { fits = fits; few = few; parts = parts; many = many; place_is = refl })))
-    ]
+      by_entries : HasNoStray s w layers → IsCrowded r s blocks None → AreFew → Answer (Some r)
+      by_entries placed uncrowded parts = elim (entries_or w.marks made range pass) [
+        | inl entries ↦ by_claim placed uncrowded parts entries (unclaimed w.marks made) refl
+        | inr many ↦ late uncrowded 10 0 (inr (inl (refl, record { fits = fits; few = few; placed = placed; parts = parts; many = many; place_is = refl })))
+      ]
 
-    by_parts : packet_total made ≤ most_packets → IsCrowded r s blocks None → Answer (Some r)
-    by_parts few uncrowded =
-        let range = headers_in_range w layers s made may.headers may.range wanted fits some little refl in
-        let pass = headers_pass w layers s made may.headers may.range wanted fits some little refl may.totals few in
-        elim (parted_or w.marks.parts made range pass) [
-          | inl all ↦ by_entries few uncrowded (λ t inside. all t (omega (arith, inside, tile_number_stays (with_layers w layers) s))) range pass
-          | inr place ↦ late few uncrowded 5 place.0 (inl (refl, record { fits = fits; few = few; many = place.1 }))
-        ]
+      by_parts : HasNoStray s w layers → IsCrowded r s blocks None → Answer (Some r)
+      by_parts placed uncrowded =
+          elim (parted_or w.marks.parts made range pass) [
+            | inl all ↦ by_entries placed uncrowded (λ t inside. all t (omega (arith, inside, tile_number_stays (with_layers w layers) s)))
+            | inr place ↦ late uncrowded 5 place.0 (inl (refl, record { fits = fits; few = few; placed = placed; many = place.1 }))
+          ]
 
-    by_crowds : packet_total made ≤ most_packets → (lowest : Option ℕ) → IsCrowded r s blocks lowest → Answer (Some r)
-    by_crowds few None uncrowded = by_parts few uncrowded
-    by_crowds few (Some place) crowded = inr (fault.Choice 4 place, (λ e. absurd (cc)), inr (whole, inr (inl (refl, record { fits = fits; few = few; lowest = crowded }))))
+      by_crowds : HasNoStray s w layers → (lowest : Option ℕ) → IsCrowded r s blocks lowest → Answer (Some r)
+      by_crowds placed None uncrowded = by_parts placed uncrowded
+      by_crowds placed (Some place) crowded =
+          inr (fault.Choice 4 place, (λ e. absurd (cc)), inr (whole, inr (inr (inl (refl, record { fits = fits; few = few; placed = placed; lowest = crowded })))))
+
+      by_strays : Answer (Some r)
+      by_strays = elim (stray_or s w layers range pass) [
+        | inl placed ↦ (let found = crowds.some r layers blocks in by_crowds placed found.0 found.1)
+        | inr place ↦ inr (fault.Choice 12 place.0, (λ e. absurd (cc)), inr (whole, inr (inl (refl, record { fits = fits; few = few; stray = place.1 }))))
+      ]
 
     by_packets : Answer (Some r)
     by_packets = elim (cases_lt most_packets (packet_total made)) [
       | inl many ↦ inr (fault.Limit 7 (packet_total made), (λ e. absurd (cc)), inr (whole, inr (refl, record { fits = fits; count = refl; many = many })))
-      | inr few ↦ let found = crowds.some r layers blocks in by_crowds few found.0 found.1
+      | inr few ↦
+          by_strays few (headers_in_range w layers s made may.headers may.range wanted fits some little refl)
+          (headers_pass w layers s made may.headers may.range wanted fits some little refl may.totals few)
     ]
 
   by_rule : (o : Option Rule) → MakesLayers o s blocks → first_broken w.style blocks ≡ None → Fits w.precincts s → Answer o

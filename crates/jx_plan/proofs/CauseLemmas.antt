@@ -1,5 +1,5 @@
 -- Of a rule and a stream there is one answer at most: nothing is in the way of its plan, or one cause is.
-use Rattle.std.proofs.Common.{◌≡◌, ◌<◌, ◌≤◌, ◌∙◌, ap, sym, subst, refl, arith, ℕ, List, map, inl, inr, Option, None, Some, Result, Ok, Err, OnOk}
+use Rattle.std.proofs.Common.{◌≡◌, ◌<◌, ◌≤◌, ◌∙◌, ap, sym, subst, refl, arith, ℕ, Bool, true, false, List, length, map, inl, inr, Option, None, Some, Result, Ok, Err, OnOk}
 use Rattle.std.proofs.lemmas.Bool.{cases_lt}
 use Rattle.std.proofs.lemmas.Option.{same_Some}
 use Rattle.jx_base.specs.declared.pieces.Block.{Block}
@@ -23,7 +23,9 @@ use Rattle.jx_plan.specs.Layers.{AreJobs}
 use Rattle.jx_plan.specs.Plan.{IsPlan, Plan, headers_of, headers_with, most_packets}
 use Rattle.jx_plan.specs.Planned.{CanBePlannedBy, HasLaterCause, HasPlanCause, IsCrowded, IsFreeBy, IsPlanned, IsPlannedBy, IsUnplannedBy, LacksPlan, blocks_written, layers_of_rule}
 use Rattle.jx_layers.specs.Rule.{Rule}
+use Rattle.jx_plan.specs.Changes.{has_outside}
 use Rattle.jx_plan.specs.Steps.{IsTooLate, IsUnmet}
+use Rattle.jx_plan.specs.Strays.{HasNoStray, IsStray}
 use Rattle.jx_options.specs.Wanted.{Wanted}
 use Rattle.jx_plan.proofs.LayerLaws.{CrowdLaws, WrittenLaws}
 use Rattle.jx_plan.proofs.StreamLemmas.{tile_number_stays}
@@ -33,6 +35,9 @@ same_choice a b c d e h = rw (e, h) refl
 
 same_limit : (a b c d : ℕ) → a ≡ b → c ≡ d → ◌≡◌ {A = PlanFault} (fault.Limit a c) (fault.Limit b d)
 same_limit a b c d e h = rw (e, h) refl
+
+true_false : (b : Bool) → b ≡ true → b ≡ false → ⊥
+true_false b e h = absurd (cc)
 
 same_some : (o : Option ℕ) (c d : ℕ) → o ≡ Some c → o ≡ Some d → c ≡ d
 same_some o c d e h = cc
@@ -116,6 +121,28 @@ few_entries x y s t e h few = subst (λ (w : Wanted). HasFewEntries w.marks t) e
 met_claim : (x y : Wanted) (s t : Stream) → x ≡ y → s ≡ t → unclaimed x.marks s ≡ None → unclaimed y.marks t ≡ None
 met_claim x y s t e h met = subst (λ (w : Wanted). unclaimed w.marks t ≡ None) e (subst (λ (u : Stream). unclaimed x.marks u ≡ None) h met)
 
+no_stray : (r s : Stream) (v w : Wanted) (m n : ℕ) → r ≡ s → v ≡ w → m ≡ n → HasNoStray r v m → HasNoStray s w n
+no_stray r s v w m n e h k placed =
+    subst (λ (x : Stream). HasNoStray x w n) e (subst (λ (x : Wanted). HasNoStray r x n) h (subst (λ (x : ℕ). HasNoStray r v x) k placed))
+
+-- ---- choice 12
+module _ (s : Stream) (w : Wanted) (layers : ℕ) where
+  stray_none : (place : ℕ) → IsStray s w layers place → HasNoStray s w layers → ⊥
+  stray_none place (inl x) none = true_false (has_outside (length s.siz.comps) w.changes) x.0 none.comps
+  stray_none place (inr x) none = x.1.stray (none.each place x.1.inside)
+
+  one_stray : (c d : ℕ) → IsStray s w layers c → IsStray s w layers d → c ≡ d
+  one_stray c d (inl x) (inl y) = x.1 ∙ sym y.1
+  one_stray c d (inl x) (inr y) = absurd (true_false (has_outside (length s.siz.comps) w.changes) x.0 y.0)
+  one_stray c d (inr x) (inl y) = absurd (true_false (has_outside (length s.siz.comps) w.changes) y.0 x.0)
+  one_stray c d (inr x) (inr y) = elim (cases_lt c d) [
+    | inl lt ↦ absurd (x.1.stray (y.1.lowest c lt))
+    | inr ge ↦ elim (cases_lt d c) [
+      | inl lt ↦ absurd (y.1.stray (x.1.lowest d lt))
+      | inr le ↦ omega arith
+    ]
+  ]
+
 module _ (s : Stream) (w : Wanted) (layers : ℕ) where
   plan_free : (p : Plan) → p.stream ≡ s → p.wanted ≡ w → p.layers ≡ layers → IsPlan p → IsFree s w layers
   plan_free p stream wanted is plan =
@@ -123,6 +150,7 @@ module _ (s : Stream) (w : Wanted) (layers : ℕ) where
       record {
         fits = subst (λ (x : Wanted). Fits x.precincts s) wanted (subst (λ (x : Stream). Fits p.wanted.precincts x) stream plan.fits);
         few = subst (λ (x : Stream). packet_total x ≤ most_packets) same plan.packets;
+        placed = no_stray p.stream s p.wanted w p.layers layers stream wanted is plan.placed;
         parts = λ t inside.
             let there : t < tile_number p.stream.siz = omega (arith, inside, ap (λ (x : Stream). tile_number x.siz) stream) in
             few_parts p.wanted w (headers_of p) (headers_with w layers s) t wanted same (plan.parts t there);
@@ -163,6 +191,11 @@ module _ (s : Stream) (w : Wanted) (layers : ℕ) where
   late_few number place (inr (inl x)) = x.1.few
   late_few number place (inr (inr x)) = x.1.few
 
+  late_placed : (number place : ℕ) → IsLate s w layers number place → HasNoStray s w layers
+  late_placed number place (inl x) = x.1.placed
+  late_placed number place (inr (inl x)) = x.1.placed
+  late_placed number place (inr (inr x)) = x.1.placed
+
   free_late : (number place : ℕ) → IsFree s w layers → IsLate s w layers number place → ⊥
   free_late number place free (inl x) = many_few place x.1 free.parts
   free_late number place free (inr (inl x)) = entries_few w.marks made x.1.many free.entries
@@ -183,14 +216,14 @@ module _ (own : Marks) (w : Wanted) (layers : ℕ) (s other : Stream) (same : ow
   pub entries_made : HasFewEntries own other → HasFewEntries w.marks (headers_with w layers s)
   entries_made few = subst (λ (m : Marks). HasFewEntries m (headers_with w layers s)) same (subst (HasFewEntries own) is few)
 
-  pub unmet_late : Fits w.precincts s → packet_total (headers_with w layers s) ≤ most_packets → ((t : ℕ) → t < tile_number s.siz → HasFewParts w.marks.parts (headers_with w layers s) t)
+  pub unmet_late : Fits w.precincts s → packet_total (headers_with w layers s) ≤ most_packets → HasNoStray s w layers → ((t : ℕ) → t < tile_number s.siz → HasFewParts w.marks.parts (headers_with w layers s) t)
       → HasFewEntries w.marks (headers_with w layers s) → (e : PlanFault) → IsUnmet own other e → IsTooLate s w layers e
-  unmet_late fits few parts entries (fault.Choice number place) unmet =
+  unmet_late fits few placed parts entries (fault.Choice number place) unmet =
       let first : unclaimed w.marks (headers_with w layers s) ≡ Some place =
       subst (λ (m : Marks). unclaimed m (headers_with w layers s) ≡ Some place) same (subst (λ (u : Stream). unclaimed own u ≡ Some place) is unmet.1) in
-      inr (inr (unmet.0, record { fits = fits; few = few; parts = parts; entries = entries; first = first }))
-  unmet_late fits few parts entries (fault.Limit number found) unmet = absurd unmet
-  unmet_late fits few parts entries fault.NoMemory unmet = absurd unmet
+      inr (inr (unmet.0, record { fits = fits; few = few; placed = placed; parts = parts; entries = entries; first = first }))
+  unmet_late fits few placed parts entries (fault.Limit number found) unmet = absurd unmet
+  unmet_late fits few placed parts entries fault.NoMemory unmet = absurd unmet
 
 -- ---- choice 4
 module _ (crowds : CrowdLaws) (r : Rule) (s : Stream) (blocks : List Block) where
@@ -205,7 +238,8 @@ module _ (crowds : CrowdLaws) (s : Stream) (blocks : List Block) (w : Wanted) wh
   lacks_fits : (o : Option Rule) (e : PlanFault) → (e ≡ fault.NoMemory → ⊥) → LacksPlan o s blocks w e → Fits w.precincts s
   lacks_fits None e ne h = h.0
   lacks_fits (Some r) (fault.Choice a c) ne (inl h) = h.1.fits
-  lacks_fits (Some r) (fault.Choice a c) ne (inr h) = late_fits s w (layers_of_rule r s blocks) a c h.cause
+  lacks_fits (Some r) (fault.Choice a c) ne (inr (inl h)) = h.1.fits
+  lacks_fits (Some r) (fault.Choice a c) ne (inr (inr h)) = late_fits s w (layers_of_rule r s blocks) a c h.cause
   lacks_fits (Some r) (fault.Limit a c) ne h = h.1.fits
   lacks_fits (Some r) fault.NoMemory ne h = absurd (ne refl)
 
@@ -214,14 +248,23 @@ module _ (crowds : CrowdLaws) (s : Stream) (blocks : List Block) (w : Wanted) wh
   lacks_same (Some r) fault.NoMemory f ne nf he hf = absurd (ne refl)
   lacks_same (Some r) (fault.Choice a c) fault.NoMemory ne nf he hf = absurd (nf refl)
   lacks_same (Some r) (fault.Limit a c) fault.NoMemory ne nf he hf = absurd (nf refl)
-  lacks_same (Some r) (fault.Choice a c) (fault.Choice b d) ne nf (inl x) (inl y) = same_choice a b c d (x.0 ∙ sym y.0) (one_crowded crowds r s blocks c d x.1.lowest y.1.lowest)
-  lacks_same (Some r) (fault.Choice a c) (fault.Choice b d) ne nf (inl x) (inr y) = absurd (none_crowded crowds r s blocks c x.1.lowest y.uncrowded)
-  lacks_same (Some r) (fault.Choice a c) (fault.Choice b d) ne nf (inr x) (inl y) = absurd (none_crowded crowds r s blocks d y.1.lowest x.uncrowded)
-  lacks_same (Some r) (fault.Choice a c) (fault.Choice b d) ne nf (inr x) (inr y) = one_late s w (layers_of_rule r s blocks) a c b d x.cause y.cause
+  lacks_same (Some r) (fault.Choice a c) (fault.Choice b d) ne nf (inl x) (inl y) = same_choice a b c d (x.0 ∙ sym y.0) (one_stray s w (layers_of_rule r s blocks) c d x.1.stray y.1.stray)
+  lacks_same (Some r) (fault.Choice a c) (fault.Choice b d) ne nf (inl x) (inr (inl y)) = absurd (stray_none s w (layers_of_rule r s blocks) c x.1.stray y.1.placed)
+  lacks_same (Some r) (fault.Choice a c) (fault.Choice b d) ne nf (inl x) (inr (inr y)) =
+      absurd (stray_none s w (layers_of_rule r s blocks) c x.1.stray (late_placed s w (layers_of_rule r s blocks) b d y.cause))
+  lacks_same (Some r) (fault.Choice a c) (fault.Choice b d) ne nf (inr (inl x)) (inl y) = absurd (stray_none s w (layers_of_rule r s blocks) d y.1.stray x.1.placed)
+  lacks_same (Some r) (fault.Choice a c) (fault.Choice b d) ne nf (inr (inr x)) (inl y) =
+      absurd (stray_none s w (layers_of_rule r s blocks) d y.1.stray (late_placed s w (layers_of_rule r s blocks) a c x.cause))
+  lacks_same (Some r) (fault.Choice a c) (fault.Choice b d) ne nf (inr (inl x)) (inr (inl y)) = same_choice a b c d (x.0 ∙ sym y.0) (one_crowded crowds r s blocks c d x.1.lowest y.1.lowest)
+  lacks_same (Some r) (fault.Choice a c) (fault.Choice b d) ne nf (inr (inl x)) (inr (inr y)) = absurd (none_crowded crowds r s blocks c x.1.lowest y.uncrowded)
+  lacks_same (Some r) (fault.Choice a c) (fault.Choice b d) ne nf (inr (inr x)) (inr (inl y)) = absurd (none_crowded crowds r s blocks d y.1.lowest x.uncrowded)
+  lacks_same (Some r) (fault.Choice a c) (fault.Choice b d) ne nf (inr (inr x)) (inr (inr y)) = one_late s w (layers_of_rule r s blocks) a c b d x.cause y.cause
   lacks_same (Some r) (fault.Choice a c) (fault.Limit b d) ne nf (inl x) hf = absurd (omega (arith, x.1.few, hf.1.count, hf.1.many))
-  lacks_same (Some r) (fault.Choice a c) (fault.Limit b d) ne nf (inr x) hf = absurd (late_passes s w (layers_of_rule r s blocks) a c d x.cause hf.1)
+  lacks_same (Some r) (fault.Choice a c) (fault.Limit b d) ne nf (inr (inl x)) hf = absurd (omega (arith, x.1.few, hf.1.count, hf.1.many))
+  lacks_same (Some r) (fault.Choice a c) (fault.Limit b d) ne nf (inr (inr x)) hf = absurd (late_passes s w (layers_of_rule r s blocks) a c d x.cause hf.1)
   lacks_same (Some r) (fault.Limit a c) (fault.Choice b d) ne nf he (inl y) = absurd (omega (arith, y.1.few, he.1.count, he.1.many))
-  lacks_same (Some r) (fault.Limit a c) (fault.Choice b d) ne nf he (inr y) = absurd (late_passes s w (layers_of_rule r s blocks) b d c y.cause he.1)
+  lacks_same (Some r) (fault.Limit a c) (fault.Choice b d) ne nf he (inr (inl y)) = absurd (omega (arith, y.1.few, he.1.count, he.1.many))
+  lacks_same (Some r) (fault.Limit a c) (fault.Choice b d) ne nf he (inr (inr y)) = absurd (late_passes s w (layers_of_rule r s blocks) b d c y.cause he.1)
   lacks_same (Some r) (fault.Limit a c) (fault.Limit b d) ne nf he hf = same_limit a b c d (he.0 ∙ sym hf.0) (he.1.count ∙ sym hf.1.count)
 
   later_same : (o : Option Rule) (e f : PlanFault) → (e ≡ fault.NoMemory → ⊥) → (f ≡ fault.NoMemory → ⊥) → HasLaterCause o s blocks w e → HasLaterCause o s blocks w f → e ≡ f
@@ -238,8 +281,9 @@ module _ (crowds : CrowdLaws) (s : Stream) (blocks : List Block) (w : Wanted) wh
 
   -- nothing is in the way, and a cause is
   free_lacks : (r : Rule) (e : PlanFault) → IsFreeBy r s blocks w → IsUnplannedBy r s blocks w e → e ≡ fault.NoMemory
-  free_lacks r (fault.Choice number place) free (inl x) = absurd (none_crowded crowds r s blocks place x.1.lowest free.uncrowded)
-  free_lacks r (fault.Choice number place) free (inr x) = absurd (free_late s w (layers_of_rule r s blocks) number place free.free x.cause)
+  free_lacks r (fault.Choice number place) free (inl x) = absurd (stray_none s w (layers_of_rule r s blocks) place x.1.stray free.free.placed)
+  free_lacks r (fault.Choice number place) free (inr (inl x)) = absurd (none_crowded crowds r s blocks place x.1.lowest free.uncrowded)
+  free_lacks r (fault.Choice number place) free (inr (inr x)) = absurd (free_late s w (layers_of_rule r s blocks) number place free.free x.cause)
   free_lacks r (fault.Limit number found) free cause = absurd (free_few s w (layers_of_rule r s blocks) found free.free cause.1)
   free_lacks r fault.NoMemory free cause = refl
 

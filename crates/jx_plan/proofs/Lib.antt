@@ -10,7 +10,11 @@ mod FactLemmas
 pub mod CausalLemmas
 mod AlikeLemmas
 mod WrittenLemmas
+mod ChangeLemmas
+mod CodingLemmas
+pub mod EntryLemmas
 mod StandLemmas
+mod PocLemmas
 mod ZeroLemmas
 mod ReadLemmas
 pub mod StreamLemmas

@@ -1,47 +1,72 @@
 -- What is written has no POC, TLM, PLM, PLT, PPM, PPT or skipped marker and all CRG and COM of the main header, and each tile's COD is as asked.
-use Rattle.std.proofs.Common.{◌≡◌, ◌∙◌, ◌<◌, ◌≤◌, ◌^◌, ℕ, true, false, nat_lt, arith, List, [], ◌∷◌, ◌++◌, length, refl, sym, ap, subst, Option, Some, None, inl, inr}
+use Rattle.std.proofs.Common.{◌≡◌, ◌∙◌, ◌<◌, ◌≤◌, ◌^◌, ℕ, true, false, nat_lt, arith, List, [], ◌∷◌, ◌++◌, drop, length, map, refl, sym, ap, subst, Bool, Option, Some, None, inl, inr, take}
 use Rattle.std.specs.List.{All, filter, list_any}
 use Rattle.std.specs.Option.{option_or, option_map}
 use Rattle.std.proofs.lemmas.Bool.Decides.{nat_tests}
-use Rattle.std.proofs.lemmas.Bool.{cases_Bool}
-use Rattle.std.proofs.lemmas.List.Elements.{All-head, All-tail}
+use Rattle.std.proofs.lemmas.Bool.{cases_Bool, or_parts}
+use Rattle.std.proofs.lemmas.List.{take-append-drop}
+use Rattle.std.proofs.lemmas.List.Elements.{All-head, All-tail, filter-append}
 use Rattle.std.proofs.lemmas.List.Folds.{list_any-append}
 use Rattle.std.proofs.lemmas.Option.{slice_get-get_or}
+use Rattle.jx_marker.specs.declared.Progression.{Progression}
 use Rattle.jx_marker.specs.declared.Segment.{Segment}
 use Rattle.jx_marker.specs.declared.Cod.{Cod}
 use Rattle.jx_codestream.specs.declared.headers.HeaderKind.TheVariants.{First}
 use Rattle.jx_codestream.specs.declared.Tile.{Tile}
 use Rattle.jx_codestream.specs.declared.Stream.{Stream}
-use Rattle.jx_codestream.specs.Tiles.{entries_joined, entry_in, or_list, in_slot}
 use Rattle.jx_codestream.specs.Params.{cod_of, cod_or, header_in, header_of}
 use Rattle.jx_codestream.specs.Spells.{AreSegments}
 use Rattle.jx_codestream.specs.Shapes.{tile_at, no_tile}
 use Rattle.jx_tile.specs.Faults.{passed}
 use Rattle.jx_tile.specs.Totals.{block_total, packet_total, totals_fault}
-use Rattle.jx_plan.specs.Headers.{cod_written, written, is_written, all_written, tile_header, stream_written, HeaderOptions, MayBeInHeaders}
+use Rattle.jx_plan.specs.Changes.{MainOrder, coding_end, entries_by, is_poc, keeps_changes, main_order, poc_of, put_entries, tile_entries, volumes_written, with_entries}
+use Rattle.jx_plan.specs.Headers.{cod_written, written, is_written, all_written, main_written, tile_header, stream_written, HeaderOptions, MayBeInHeaders}
 use Rattle.jx_plan.specs.Asides.{is_informational, is_left_out, is_plt}
 use Rattle.jx_plan.specs.Fits.{Fits, first_zero}
 use Rattle.jx_plan.specs.Standing.{IsNote, IsHeaded, HeadersStand}
 use Rattle.jx_plan.proofs.StreamLemmas.{cod_slots, coded_at, own_slots, main_slots, tile_is, canvas_stays}
 use Rattle.jx_plan.proofs.RangeLemmas.{written_stands}
-use Rattle.jx_plan.proofs.ReadBackLemmas.{none_written, none_header, main_is, count_is}
+use Rattle.jx_plan.proofs.PocLemmas.{written_app}
+use Rattle.jx_plan.proofs.ReadBackLemmas.{main_is, count_is}
 use Rattle.jx_plan.proofs.BlockLemmas.{totals_same}
 use Rattle.jx_plan.proofs.ViewLemmas.{written_shapes}
 use Rattle.jx_codestream.proofs.FaultLemmas.{none_first as first_none}
 use Rattle.jx_marker.specs.declared.Segment.TheVariants as segment
 use Rattle.jx_base.specs.Limits.{most_blocks}
 
+-- a header with other entries has no segment of a kind that it hadn't
+
+put_none : (p : Segment → Bool) (es : List Progression) (s : Segment) → ((own put : List Progression) → p (segment.Poc put) ≡ false) → p s ≡ false → p (put_entries es s) ≡ false
+put_none p es (segment.Poc own) poc h = poc own es
+put_none p es _ poc h = h
+
+put_any : (p : Segment → Bool) (es : List Progression) (ss : List Segment) → ((own put : List Progression) → p (segment.Poc put) ≡ false) → list_any p ss ≡ false
+    → list_any p (map (put_entries es) ss) ≡ false
+put_any p es [] poc h = refl
+put_any p es (s ∷ ss) poc h =
+    let e = or_parts (p s) (list_any p ss) h in
+    rw (put_none p es s poc e.0) (put_any p es ss poc e.1)
+
+with_none : (p : Segment → Bool) (es : List Progression) (ss : List Segment) → ((own put : List Progression) → p (segment.Poc put) ≡ false) → list_any p ss ≡ false
+    → list_any p (with_entries es ss) ≡ false
+with_none p [] ss poc h = h
+with_none p (e ∷ es) ss poc h = elim (cases_Bool (list_any is_poc ss)) [
+  | inl some ↦ rw some (put_any p (e ∷ es) ss poc h)
+  | inr none ↦ rw none (list_any-append p ss (segment.Poc (e ∷ es) ∷ []) ∙ rw (h, poc (e ∷ es) (e ∷ es)) refl)
+]
+
 -- no PLT
 
-not_plt : (a : HeaderOptions) (s : Segment) → is_written s ≡ true → is_plt (written a s) ≡ false
+not_plt : (a : HeaderOptions) (s : Segment) → is_written a.wanted.changes s ≡ true → is_plt (written a s) ≡ false
 not_plt a (segment.Plt bytes) h = absurd (cc)
 not_plt a (segment.Cod cod) h = refl
 not_plt a (segment.Coc comp shape) h = refl
+not_plt a (segment.Poc entries) h = refl
 not_plt a _ h = refl
 
 no_plt : (a : HeaderOptions) (ss : List Segment) → list_any is_plt (all_written a ss) ≡ false
 no_plt a [] = refl
-no_plt a (s ∷ ss) = elim (cases_Bool (is_written s)) [
+no_plt a (s ∷ ss) = elim (cases_Bool (is_written a.wanted.changes s)) [
   | inl t ↦ rw (t, not_plt a s t) (no_plt a ss)
   | inr f ↦ rw f (no_plt a ss)
 ]
@@ -61,19 +86,30 @@ any_both (x ∷ xs) ys h k = elim (cases_Bool (is_plt x)) [
   | inr f ↦ rw f (any_both xs ys (rw f at h) k)
 ]
 
-header_plt : (a : HeaderOptions) (comps : ℕ) (t : Tile) → IsHeaded comps t → list_any is_plt (tile_header a t) ≡ false
-header_plt a comps t h = any_both (all_written a t.header) t.notes (no_plt a t.header) (plt_notes comps t.notes h.notes)
+header_plt : (a : HeaderOptions) (comps : ℕ) (m : MainOrder) (t : Tile) → IsHeaded comps t → list_any is_plt (tile_header a comps m t) ≡ false
+header_plt a comps m t h =
+    let es : List Progression = tile_entries comps a.wanted.changes m t in
+    any_both (with_entries es (all_written a t.header)) t.notes (with_none is_plt es (all_written a t.header) (λ own put. refl) (no_plt a t.header)) (plt_notes comps t.notes h.notes)
 
 -- nothing that is left out, and all that informs
 
-left_next : (a : HeaderOptions) (s : Segment) (ss : List Segment) → list_any is_left_out (all_written a ss) ≡ false → list_any is_left_out (all_written a (s ∷ ss)) ≡ false
-left_next a (segment.Cod cod) ss h = h
-left_next a (segment.Coc comp shape) ss h = h
-left_next a _ ss h = h
+left_next : (a : HeaderOptions) (s : Segment) → is_written a.wanted.changes s ≡ true → is_left_out (written a s) ≡ false
+left_next a (segment.Tlm bytes) h = absurd (cc)
+left_next a (segment.Plm bytes) h = absurd (cc)
+left_next a (segment.Ppm index bytes) h = absurd (cc)
+left_next a (segment.Ppt index bytes) h = absurd (cc)
+left_next a (segment.Skipped code) h = absurd (cc)
+left_next a (segment.Cod cod) h = refl
+left_next a (segment.Coc comp shape) h = refl
+left_next a (segment.Poc entries) h = refl
+left_next a _ h = refl
 
 none_left : (a : HeaderOptions) (ss : List Segment) → list_any is_left_out (all_written a ss) ≡ false
 none_left a [] = refl
-none_left a (s ∷ ss) = left_next a s ss (none_left a ss)
+none_left a (s ∷ ss) = elim (cases_Bool (is_written a.wanted.changes s)) [
+  | inl t ↦ rw (t, left_next a s t) (none_left a ss)
+  | inr f ↦ rw f (none_left a ss)
+]
 
 note_left : (comps : ℕ) (s : Segment) → IsNote comps s → is_left_out s ≡ false
 note_left comps (segment.Com bytes) h = refl
@@ -83,19 +119,52 @@ notes_left : (comps : ℕ) (notes : List Segment) → All (IsNote comps) notes �
 notes_left comps [] h = refl
 notes_left comps (s ∷ ss) h = rw (note_left comps s (All-head (IsNote comps) s ss h)) (notes_left comps ss (All-tail (IsNote comps) s ss h))
 
-header_left : (a : HeaderOptions) (comps : ℕ) (t : Tile) → IsHeaded comps t → list_any is_left_out (tile_header a t) ≡ false
-header_left a comps t h =
-    list_any-append is_left_out (all_written a t.header) t.notes ∙ (let own = none_left a t.header in let notes = notes_left comps t.notes h.notes in rw (own, notes) refl)
+header_left : (a : HeaderOptions) (comps : ℕ) (m : MainOrder) (t : Tile) → IsHeaded comps t → list_any is_left_out (tile_header a comps m t) ≡ false
+header_left a comps m t h =
+    let es : List Progression = tile_entries comps a.wanted.changes m t in
+    let own = with_none is_left_out es (all_written a t.header) (λ own put. refl) (none_left a t.header) in
+    let notes = notes_left comps t.notes h.notes in
+    list_any-append is_left_out (with_entries es (all_written a t.header)) t.notes ∙ rw (own, notes) refl
 
-informs_next : (a : HeaderOptions) (s : Segment) (ss : List Segment) → filter is_informational (all_written a ss) ≡ filter is_informational ss
-    → filter is_informational (all_written a (s ∷ ss)) ≡ filter is_informational (s ∷ ss)
-informs_next a (segment.Crg bytes) ss h = ap (λ (z : List Segment). segment.Crg bytes ∷ z) h
-informs_next a (segment.Com bytes) ss h = ap (λ (z : List Segment). segment.Com bytes ∷ z) h
-informs_next a _ ss h = h
+-- the main header has nothing that is left out
+main_left : (a : HeaderOptions) (comps : ℕ) (main : List Segment) → list_any is_left_out (main_written a comps main) ≡ false
+main_left a comps main =
+    list_any-append is_left_out (all_written a (take (coding_end main) main)) _
+    ∙ rw (none_left a (take (coding_end main) main), list_any-append is_left_out (poc_of (volumes_written comps a.wanted.changes)) (all_written a (drop (coding_end main) main)),
+    none_left a (drop (coding_end main) main), plain (volumes_written comps a.wanted.changes)) refl
+  where
+    plain : (es : List Progression) → list_any is_left_out (poc_of es) ≡ false
+    plain [] = refl
+    plain (e ∷ es) = refl
+
+informs_one : (a : HeaderOptions) (s : Segment) → filter is_informational (all_written a (s ∷ [])) ≡ filter is_informational (s ∷ [])
+informs_one a (segment.Poc entries) = elim (cases_Bool (keeps_changes a.wanted.changes)) [
+  | inl t ↦ rw t refl
+  | inr f ↦ rw f refl
+]
+informs_one a (segment.Crg bytes) = refl
+informs_one a (segment.Com bytes) = refl
+informs_one a _ = refl
 
 informs : (a : HeaderOptions) (ss : List Segment) → filter is_informational (all_written a ss) ≡ filter is_informational ss
 informs a [] = refl
-informs a (s ∷ ss) = informs_next a s ss (informs a ss)
+informs a (s ∷ ss) =
+    ap (λ (xs : List Segment). filter is_informational xs) (written_app a (s ∷ []) ss) ∙ filter-append is_informational (all_written a (s ∷ [])) (all_written a ss)
+    ∙ rw (informs_one a s, informs a ss) refl ∙ sym (filter-append is_informational (s ∷ []) ss)
+
+poc_informs : (es : List Progression) → filter is_informational (poc_of es) ≡ []
+poc_informs [] = refl
+poc_informs (e ∷ es) = refl
+
+main_informed : (a : HeaderOptions) (comps : ℕ) (main : List Segment) → filter is_informational (main_written a comps main) ≡ filter is_informational main
+main_informed a comps main =
+    let front : List Segment = take (coding_end main) main in
+    let back : List Segment = drop (coding_end main) main in
+    let put : List Progression = volumes_written comps a.wanted.changes in
+    filter-append is_informational (all_written a front) (poc_of put ++ all_written a back)
+    ∙ ap (λ (xs : List Segment). filter is_informational (all_written a front) ++ xs)
+    (filter-append is_informational (poc_of put) (all_written a back) ∙ ap (λ (xs : List Segment). xs ++ filter is_informational (all_written a back)) (poc_informs put))
+    ∙ rw (informs a front, informs a back) refl ∙ sym (filter-append is_informational front back) ∙ ap (λ (xs : List Segment). filter is_informational xs) (take-append-drop (coding_end main) main)
 
 -- limits 5 and 6
 
@@ -123,35 +192,28 @@ unfolding stream_written
 comps_at a s h = h.each
 
 module _ (a : HeaderOptions) (s : Stream) (stand : HeadersStand s) where
-  pub main_plain : entries_joined (stream_written a s).main ≡ []
-  main_plain = ap entries_joined (main_is a s) ∙ none_written a s.main
-
-  header_is : (t : ℕ) → t < length s.tiles → header_of (stream_written a s) t ≡ tile_header a (tile_at s t)
+  header_is : (t : ℕ) → t < length s.tiles → header_of (stream_written a s) t ≡ tile_header a (length s.siz.comps) (main_order s.main) (tile_at s t)
   header_is t inside =
       let within : t < length (stream_written a s).tiles = omega (arith, count_is a s) in
       ap header_in (slice_get-get_or (stream_written a s).tiles t no_tile within) ∙ ap (λ (x : Tile). x.header) (tile_is a s stand t inside)
 
-  pub entries_plain : (t : ℕ) → t < length s.tiles → entries_joined (header_of (stream_written a s) t) ≡ []
-  entries_plain t inside = ap entries_joined (header_is t inside) ∙ none_header a (length s.siz.comps) (tile_at s t) (stand.each t no_tile inside)
-
   pub lengths_plain : (t : ℕ) → t < length s.tiles → list_any is_plt (header_of (stream_written a s) t) ≡ false
-  lengths_plain t inside = ap (λ (xs : List Segment). list_any is_plt xs) (header_is t inside) ∙ header_plt a (length s.siz.comps) (tile_at s t) (stand.each t no_tile inside)
+  lengths_plain t inside = ap (λ (xs : List Segment). list_any is_plt xs) (header_is t inside) ∙ header_plt a (length s.siz.comps) (main_order s.main) (tile_at s t) (stand.each t no_tile inside)
 
   pub left_main : list_any is_left_out (stream_written a s).main ≡ false
-  left_main = ap (λ (xs : List Segment). list_any is_left_out xs) (main_is a s) ∙ none_left a s.main
+  left_main = ap (λ (xs : List Segment). list_any is_left_out xs) (main_is a s) ∙ main_left a (length s.siz.comps) s.main
 
   pub left_header : (t : ℕ) → t < length s.tiles → list_any is_left_out (header_of (stream_written a s) t) ≡ false
-  left_header t inside = ap (λ (xs : List Segment). list_any is_left_out xs) (header_is t inside) ∙ header_left a (length s.siz.comps) (tile_at s t) (stand.each t no_tile inside)
+  left_header t inside = ap (λ (xs : List Segment). list_any is_left_out xs) (header_is t inside) ∙ header_left a (length s.siz.comps) (main_order s.main) (tile_at s t) (stand.each t no_tile inside)
 
   pub main_informs : filter is_informational (stream_written a s).main ≡ filter is_informational s.main
-  main_informs = ap (λ (xs : List Segment). filter is_informational xs) (main_is a s) ∙ informs a s.main
+  main_informs = ap (λ (xs : List Segment). filter is_informational xs) (main_is a s) ∙ main_informed a (length s.siz.comps) s.main
 
-  pub order_plain : (t : ℕ) → t < length s.tiles
-      → (tile_at (stream_written a s) t).progressions ≡ or_list (entry_in (in_slot 1 (header_of (stream_written a s) t))) (entry_in (in_slot 1 (stream_written a s).main))
+  pub order_plain : (t : ℕ) → t < length s.tiles → (tile_at (stream_written a s) t).progressions ≡ entries_by (main_order (stream_written a s).main) (header_of (stream_written a s) t)
   order_plain t inside =
       ap (λ (x : Tile). x.progressions) (tile_is a s stand t inside)
-      ∙ ap (λ (xs : List Segment). or_list (entry_in (in_slot 1 xs)) (entry_in (in_slot 1 (all_written a s.main)))) (sym (header_is t inside))
-      ∙ ap (λ (xs : List Segment). or_list (entry_in (in_slot 1 (header_of (stream_written a s) t))) (entry_in (in_slot 1 xs))) (sym (main_is a s))
+      ∙ ap (λ (xs : List Segment). entries_by (main_order (main_written a (length s.siz.comps) s.main)) xs) (sym (header_is t inside))
+      ∙ ap (λ (xs : List Segment). entries_by (main_order xs) (header_of (stream_written a s) t)) (sym (main_is a s))
 
   pub cods_are : (t : ℕ) → cod_or (cod_of (header_of (stream_written a s) t) (stream_written a s).main) ≡ cod_written a (cod_or (cod_of (header_of s t) s.main))
   cods_are t =

@@ -1,5 +1,5 @@
 -- What a plan stands on: how many layers a stream has, a block at its number, and the headers that are written.
-use Rattle.std.proofs.Common.{◌≡◌, ◌<◌, ◌≤◌, ◌^◌, ◌∙◌, ap, sym, subst, arith, ℕ, false, List, length, nat_lt, Option, None, Some}
+use Rattle.std.proofs.Common.{◌≡◌, ◌<◌, ◌≤◌, ◌^◌, ◌∙◌, ap, sym, subst, arith, ℕ, false, List, [], length, nat_lt, Option, None, Some}
 use Rattle.std.specs.List.{All, slice_get}
 use Rattle.std.specs.Option.{IfSome}
 use Rattle.std.proofs.lemmas.Bool.Decides.{nat_tests}
@@ -36,7 +36,11 @@ use Rattle.jx_options.specs.Wanted.{MayBeStyle, MayBeWanted, Wanted}
 use Rattle.jx_plan.proofs.BlockLemmas.{blocks_are}
 use Rattle.jx_plan.proofs.ReadLemmas.{read_stands}
 use Rattle.jx_tile.specs.Faults.{passed}
+use Rattle.jx_plan.specs.Changes.{has_long, has_outside, main_order}
 use Rattle.jx_plan.specs.Standing.{HeadersStand}
+use Rattle.jx_plan.specs.Strays.{HasNoStray}
+use Rattle.jx_marker.specs.declared.Progression.{Progression}
+use Rattle.jx_codestream.specs.Shapes.{tile_at}
 use Rattle.jx_plan.proofs.CoverLemmas.{written_whole}
 use Rattle.jx_plan.proofs.PlainLemmas.{blocks_pass, totals_plain}
 use Rattle.jx_plan.proofs.RangeLemmas.{written_in_range}
@@ -87,7 +91,7 @@ style_few None may = tt
 style_few (Some style) may = may.few
 
 may_ask : (w : Wanted) (layers : ℕ) → MayBeWanted w → 1 ≤ layers → layers < 2 ^ 16 → MayBeInHeaders (with_layers w layers)
-may_ask w layers wanted some few = record { some = some; few = few; order = wanted.order; bytes = wanted.bytes; style = style_few w.style wanted.style }
+may_ask w layers wanted some few = record { some = some; few = few; order = wanted.order; changes = wanted.changes; bytes = wanted.bytes; style = style_few w.style wanted.style }
 
 module _ (w : Wanted) (layers : ℕ) (s other : Stream) (stand : HeadersStand s) (range : StreamInRange s) (wanted : MayBeWanted w) (fits : Fits w.precincts s) (some : 1 ≤ layers)
     (few : layers < 2 ^ 16) (is : other ≡ headers_with w layers s) where
@@ -97,10 +101,21 @@ module _ (w : Wanted) (layers : ℕ) (s other : Stream) (stand : HeadersStand s)
   pub headers_pass : totals_fault s ≡ None → packet_total (headers_with w layers s) ≤ most_packets → totals_fault other ≡ None
   headers_pass totals packets = ap totals_fault is ∙ totals_plain (with_layers w layers) s stand fits totals packets
 
-  pub headers_whole : (t : ℕ) → t < tile_number other.siz → IsWhole other t
-  headers_whole t inside =
-      let there : t < tile_number s.siz = omega (arith, inside, ap (λ (x : Stream). tile_number x.siz) is, tile_number_stays (with_layers w layers) s) in
-      subst (λ (x : Stream). IsWhole x t) (sym is) (written_whole (with_layers w layers) s t (may_ask w layers wanted some few) fits.above stand range there)
+  tile_there : (t : ℕ) → t < tile_number other.siz → t < tile_number s.siz
+  tile_there t inside = omega (arith, inside, ap (λ (x : Stream). tile_number x.siz) is, tile_number_stays (with_layers w layers) s)
+
+  pub headers_whole : HasNoStray s w layers → (t : ℕ) → t < tile_number other.siz → IsWhole other t
+  headers_whole placed t inside = subst (λ (x : Stream). IsWhole x t) (sym is) (placed.each t (tile_there t inside)).whole
+
+  -- nothing is asked of progression changes
+  pub none_placed : w.changes ≡ Some [] → HasNoStray s w layers
+  none_placed none = record {
+    comps = ap (has_outside (length s.siz.comps)) none;
+    each = λ t inside. record {
+          room = ap (λ (o : Option (List Progression)). has_long (length s.siz.comps) o (main_order s.main) (tile_at s t)) none;
+          whole = written_whole (with_layers w layers) s t (may_ask w layers wanted some few) none fits.above stand range inside;
+        };
+  }
 
 pub few_made : (w : Wanted) (layers : ℕ) (s other : Stream) → other ≡ headers_with w layers s → ((t : ℕ) → t < tile_number other.siz → HasFewParts w.marks.parts other t)
     → (t : ℕ) → t < tile_number s.siz → HasFewParts w.marks.parts (headers_with w layers s) t

@@ -61,14 +61,15 @@ pub planned_below : (own : Option Style) (blocks : List Block) (o : Option Rule)
 planned_below own blocks None facts layers jobs h = absurd h
 planned_below own blocks (Some r) facts layers jobs h = jobs_below own r layers blocks jobs h.1 h.2
 
--- ---- limit 7, choice 4, 5, 10 or 11, by the jobs and by the blocks
+-- ---- limit 7, choice 12, 4, 5, 10 or 11, by the jobs and by the blocks
 module _ (crowds : CrowdLaws) (s : Stream) (blocks : List Block) (w : Wanted) (fits : Fits w.precincts s) where
   much_by : (r : Rule) (jobs : List Job) (e : PlanFault) → 1 ≤ layers_of_rule r s blocks → AreJobs w.style r (layers_of_rule r s blocks) blocks jobs
       → IsTooMuch s w (layers_of_rule r s blocks) jobs e → IsUnplannedBy r s blocks w e
-  much_by r jobs (fault.Choice number place) some are (inl x) =
-      inl (x.0, record { fits = fits; few = x.1; lowest = crowds.jobs w.style r (layers_of_rule r s blocks) blocks jobs (Some place) some are x.2 })
-  much_by r jobs (fault.Choice number place) some are (inr x) =
-      inr (record { cause = x.0; uncrowded = crowds.jobs w.style r (layers_of_rule r s blocks) blocks jobs None some are x.1 })
+  much_by r jobs (fault.Choice number place) some are (inl x) = inl x
+  much_by r jobs (fault.Choice number place) some are (inr (inl x)) =
+      inr (inl (x.0, record { fits = fits; few = x.1; placed = x.2; lowest = crowds.jobs w.style r (layers_of_rule r s blocks) blocks jobs (Some place) some are x.3 }))
+  much_by r jobs (fault.Choice number place) some are (inr (inr x)) =
+      inr (inr (record { cause = x.0; uncrowded = crowds.jobs w.style r (layers_of_rule r s blocks) blocks jobs None some are x.1 }))
   much_by r jobs (fault.Limit number found) some are x = x
   much_by r jobs fault.NoMemory some are x = tt
 

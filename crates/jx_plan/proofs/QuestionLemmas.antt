@@ -18,8 +18,9 @@ late_asked s w layers number place (inr (inr eleven)) = (omega (arith, eleven.0)
 
 -- limit 7 and the choices 4, 5, 10 and 11 come after all questions
 pub much_asked : (s : Stream) (w : Wanted) (layers : ℕ) (jobs : List Job) (before all now : ℕ) (e : PlanFault) → now ≡ all → IsTooMuch s w layers jobs e → IsAskedAfter before all e now
-much_asked s w layers jobs before all now (fault.Choice number place) is (inl four) = inr (inl (omega (arith, four.0), (λ six. omega (arith, six, four.0)), is))
-much_asked s w layers jobs before all now (fault.Choice number place) is (inr late) = let asked = late_asked s w layers number place late.0 in inr (inl (asked.0, asked.1, is))
+much_asked s w layers jobs before all now (fault.Choice number place) is (inl twelve) = inr (inl (omega (arith, twelve.0), (λ six. omega (arith, six, twelve.0)), is))
+much_asked s w layers jobs before all now (fault.Choice number place) is (inr (inl four)) = inr (inl (omega (arith, four.0), (λ six. omega (arith, six, four.0)), is))
+much_asked s w layers jobs before all now (fault.Choice number place) is (inr (inr late)) = let asked = late_asked s w layers number place late.0 in inr (inl (asked.0, asked.1, is))
 much_asked s w layers jobs before all now (fault.Limit number found) is much = is
 much_asked s w layers jobs before all now fault.NoMemory is much = inr (omega (arith, is))
 

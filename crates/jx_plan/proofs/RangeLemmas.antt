@@ -6,7 +6,7 @@ use Rattle.std.specs.Option.{option_or, option_map}
 use Rattle.std.proofs.lemmas.Bool.{cases_Bool}
 use Rattle.std.proofs.lemmas.List.{get_or-map, length-map}
 use Rattle.std.proofs.lemmas.Option.{slice_get-get_or}
-use Rattle.std.proofs.lemmas.List.Elements.{All-nil, All-cons, All-head, All-tail, All-map}
+use Rattle.std.proofs.lemmas.List.Elements.{All-nil, All-head, All-tail, All-map, All-weaker}
 use Rattle.jx_base.specs.OrderNumbers.{IsOrderNumber}
 use Rattle.jx_base.specs.declared.style.Style.{Style}
 use Rattle.jx_marker.specs.declared.Segment.{Segment}
@@ -22,65 +22,78 @@ use Rattle.jx_geom.specs.Geometry.{Geometry, ShapesInRange, HasResolution, no_sh
 use Rattle.jx_codestream.specs.declared.headers.HeaderKind.TheVariants.{Main, First}
 use Rattle.jx_codestream.specs.declared.Tile.{Tile}
 use Rattle.jx_codestream.specs.declared.Stream.{Stream}
-use Rattle.jx_codestream.specs.Tiles.{in_slot, entry_of, entry_in, or_list}
 use Rattle.jx_codestream.specs.Params.{cod_in, tile_has_too_few, tile_planes, limit_4_of, cod_of, shape_or, shape_at, params_of, precincts_of, header_in, header_of}
 use Rattle.jx_codestream.specs.First.{tiles_fault, lacks_default}
+use Rattle.jx_codestream.specs.Spells.{AreSegments}
 use Rattle.jx_codestream.specs.Shapes.{geometry, shape_in, shapes_of, size_of, no_size, style_of, tile_at, no_tile}
 use Rattle.jx_codestream.specs.InRange.{StreamInRange}
-use Rattle.jx_codestream.proofs.SegmentLemmas.{defaults_there}
+use Rattle.jx_codestream.proofs.SegmentLemmas.{defaults_there, segments_fit}
 use Rattle.jx_codestream.proofs.ShapeLemmas.{siz_is, shape_fits}
 use Rattle.jx_codestream.proofs.RangeLemmas.{shapes_length, shapes_at}
-use Rattle.jx_plan.specs.Headers.{HeaderOptions, MayBeInHeaders, all_written, cod_written, comp_written, rsiz_written, stream_written, tile_header, tile_written}
+use Rattle.jx_plan.specs.Changes.{MainOrder, main_order, tile_entries, with_entries}
+use Rattle.jx_plan.specs.Headers.{HeaderOptions, MayBeInHeaders, all_written, comp_written, main_written, rsiz_written, stream_written, tile_header, tile_written}
 use Rattle.jx_plan.specs.Fits.{first_zero, tile_has_zero}
-use Rattle.jx_plan.specs.Standing.{IsNote, IsHeaded, HeadersStand}
+use Rattle.jx_plan.specs.Standing.{IsEntry, IsNote, IsHeaded, HeadersStand}
 use Rattle.jx_plan.proofs.AlikeLemmas.{too_few_same, bands_same}
-use Rattle.jx_plan.proofs.WrittenLemmas.{slot_written, kind_written}
-use Rattle.jx_plan.proofs.StandLemmas.{segments_written, segments_more, order_kept, style_kept}
+use Rattle.jx_plan.proofs.ChangeLemmas.{main_kind, main_slots}
+use Rattle.jx_plan.proofs.EntryLemmas.{by_fit, has_order, tile_poc, volumes_poc}
+use Rattle.jx_plan.proofs.PocLemmas.{main_stands, with_stands}
+use Rattle.jx_plan.proofs.StandLemmas.{segments_written, segments_more, style_kept}
 use Rattle.jx_plan.proofs.ZeroLemmas.{is_clear}
-use Rattle.jx_plan.proofs.StreamLemmas.{notes_aside, slots_alike, tile_slots, cod_slots, coded_at, shaped_at, shapes_stay, layers_are, style_stays, planes_stay, tile_is}
+use Rattle.jx_plan.proofs.StreamLemmas.{notes_aside, slots_alike, tile_slots, shaped_at, shapes_stay, layers_are, style_stays, planes_stay}
 use Rattle.jx_options.specs.declared.RsizChoice.{RsizChoice}
 use Rattle.jx_options.specs.declared.RsizChoice.TheVariants as rsiz
 
 -- the headers
 
-tile_stands : (a : HeaderOptions) (comps : ℕ) (main : List Segment) (t : Tile) → MayBeInHeaders a → tile_has_zero a.wanted.precincts t ≡ false → IsHeaded comps t → IsHeaded comps (tile_written a main t)
-tile_stands a comps main t may clear h = record {
-  header = segments_more comps [] (all_written a t.header) t.notes (notes_aside comps t.notes h.notes) (segments_written a First comps [] [] t.header may clear (λ slot k. k) h.header);
+header_stands : (a : HeaderOptions) (comps : ℕ) (m : MainOrder) (t : Tile) → MayBeInHeaders a → tile_has_zero a.wanted.precincts t ≡ false → IsHeaded comps t
+    → AreSegments First comps [] (tile_header a comps m t)
+header_stands a comps m t may clear h =
+    let es : List Progression = tile_entries comps a.wanted.changes m t in
+    segments_more comps [] (with_entries es (all_written a t.header)) t.notes (notes_aside comps t.notes h.notes)
+    (with_stands comps es (all_written a t.header) (λ e more is. tile_poc comps a.wanted.changes m t e more h.progressions is)
+    (segments_written a First comps [] [] t.header may clear (λ slot k. k) h.header))
+
+tile_stands : (a : HeaderOptions) (comps : ℕ) (m n : MainOrder) (t : Tile) → MayBeInHeaders a → tile_has_zero a.wanted.precincts t ≡ false → IsHeaded comps t
+    → All (IsEntry comps) (tile_written a comps m n t).progressions → IsHeaded comps (tile_written a comps m n t)
+tile_stands a comps m n t may clear h entries = record {
+  header = header_stands a comps m t may clear h;
   notes = All-nil (IsNote comps);
+  progressions = entries;
 }
 
-few_same : (a : HeaderOptions) (comps : ℕ) (main : List Segment) (t : Tile) → IsHeaded comps t
-    → tile_has_too_few (all_written a main) comps (tile_written a main t) ≡ tile_has_too_few main comps t
+few_same : (a : HeaderOptions) (comps : ℕ) (main : List Segment) (m n : MainOrder) (t : Tile) → IsHeaded comps t
+    → tile_has_too_few (main_written a comps main) comps (tile_written a comps m n t) ≡ tile_has_too_few main comps t
 unfolding tile_has_too_few
-few_same a comps main t h =
-    too_few_same a.wanted.precincts a.wanted.style (tile_header a t) t.header (all_written a main) main (slots_alike a (tile_header a t) t.header (tile_slots a comps t h))
-    (slots_alike a (all_written a main) main (λ slot g. slot_written a slot main g)) comps
+few_same a comps main m n t h =
+    too_few_same a.wanted.precincts a.wanted.style (tile_header a comps m t) t.header (main_written a comps main) main
+    (slots_alike a (tile_header a comps m t) t.header (tile_slots a comps m t h)) (slots_alike a (main_written a comps main) main (main_slots a comps main)) comps
 
-planes_same : (a : HeaderOptions) (comps : ℕ) (main : List Segment) (t : Tile) → IsHeaded comps t
-    → tile_planes (all_written a main) comps (tile_written a main t) ≡ tile_planes main comps t
+planes_same : (a : HeaderOptions) (comps : ℕ) (main : List Segment) (m n : MainOrder) (t : Tile) → IsHeaded comps t
+    → tile_planes (main_written a comps main) comps (tile_written a comps m n t) ≡ tile_planes main comps t
 unfolding tile_planes
-planes_same a comps main t h =
-    bands_same a.wanted.precincts a.wanted.style (tile_header a t) t.header (all_written a main) main (slots_alike a (tile_header a t) t.header (tile_slots a comps t h))
-    (slots_alike a (all_written a main) main (λ slot g. slot_written a slot main g)) comps
+planes_same a comps main m n t h =
+    bands_same a.wanted.precincts a.wanted.style (tile_header a comps m t) t.header (main_written a comps main) main
+    (slots_alike a (tile_header a comps m t) t.header (tile_slots a comps m t h)) (slots_alike a (main_written a comps main) main (main_slots a comps main)) comps
 
-entries_kept : (a : HeaderOptions) (comps : ℕ) (main : List Segment) (tiles : List Tile) → All (IsHeaded comps) tiles → find (tile_has_too_few main comps) tiles ≡ None
-    → find (tile_has_too_few (all_written a main) comps) (map (tile_written a main) tiles) ≡ None
-entries_kept a comps main [] h none = refl
-entries_kept a comps main (x ∷ xs) h none = elim (cases_Bool (tile_has_too_few main comps x)) [
+entries_kept : (a : HeaderOptions) (comps : ℕ) (main : List Segment) (m n : MainOrder) (tiles : List Tile) → All (IsHeaded comps) tiles → find (tile_has_too_few main comps) tiles ≡ None
+    → find (tile_has_too_few (main_written a comps main) comps) (map (tile_written a comps m n) tiles) ≡ None
+entries_kept a comps main m n [] h none = refl
+entries_kept a comps main m n (x ∷ xs) h none = elim (cases_Bool (tile_has_too_few main comps x)) [
   | inl t ↦ let e = rw t at none in absurd (cc)
-  | inr f ↦ rw (few_same a comps main x (All-head (IsHeaded comps) x xs h), f) (entries_kept a comps main xs (All-tail (IsHeaded comps) x xs h) (rw f at none))
+  | inr f ↦ rw (few_same a comps main m n x (All-head (IsHeaded comps) x xs h), f) (entries_kept a comps main m n xs (All-tail (IsHeaded comps) x xs h) (rw f at none))
 ]
 
-all_planes_kept : (a : HeaderOptions) (comps : ℕ) (main : List Segment) (tiles : List Tile) → All (IsHeaded comps) tiles
-    → flat_map (tile_planes (all_written a main) comps) (map (tile_written a main) tiles) ≡ flat_map (tile_planes main comps) tiles
-all_planes_kept a comps main [] h = refl
-all_planes_kept a comps main (x ∷ xs) h =
-    rw (planes_same a comps main x (All-head (IsHeaded comps) x xs h), all_planes_kept a comps main xs (All-tail (IsHeaded comps) x xs h)) refl
+all_planes_kept : (a : HeaderOptions) (comps : ℕ) (main : List Segment) (m n : MainOrder) (tiles : List Tile) → All (IsHeaded comps) tiles
+    → flat_map (tile_planes (main_written a comps main) comps) (map (tile_written a comps m n) tiles) ≡ flat_map (tile_planes main comps) tiles
+all_planes_kept a comps main m n [] h = refl
+all_planes_kept a comps main m n (x ∷ xs) h =
+    rw (planes_same a comps main m n x (All-head (IsHeaded comps) x xs h), all_planes_kept a comps main m n xs (All-tail (IsHeaded comps) x xs h)) refl
 
-both_there : (a : HeaderOptions) (main : List Segment) → lacks_default main ≡ false → lacks_default (all_written a main) ≡ false
-both_there a main h =
+both_there : (a : HeaderOptions) (comps : ℕ) (main : List Segment) → lacks_default main ≡ false → lacks_default (main_written a comps main) ≡ false
+both_there a comps main h =
     let both = defaults_there main h in
-    rw (kind_written a 1 main refl, kind_written a 2 main refl, both.0, both.1) refl
+    rw (main_kind a comps main 1 refl, main_kind a comps main 2 refl, both.0, both.1) refl
 
 rsiz_small : (asked : RsizChoice) (siz : Siz) → SizInRange siz → rsiz_written asked siz.rsiz < 2 ^ 14
 rsiz_small rsiz.Zero siz r = omega arith
@@ -93,42 +106,42 @@ few_tiles : (siz : Siz) (rsiz : ℕ) → tiles_fault siz ≡ None → tiles_faul
 unfolding tiles_fault
 few_tiles siz rsiz h = h
 
+comps_small : (siz : Siz) → SizInRange siz → length siz.comps < 2 ^ 16
+comps_small siz r = omega (arith, (siz_is siz r.fits).few)
+
+pub main_in : (a : HeaderOptions) (s : Stream) → MayBeInHeaders a → first_zero a.wanted.precincts s ≡ None → HeadersStand s → AreSegments Main (length s.siz.comps) [] (main_written a (length s.siz.comps) s.main)
+main_in a s may none stand =
+    let comps = length s.siz.comps in
+    main_stands a comps s.main (λ e es is. volumes_poc comps a.wanted.changes e es (comps_small s.siz stand.siz) may.changes is)
+    (segments_written a Main comps [] [] s.main may (is_clear a.wanted.precincts s none).main (λ slot k. k) stand.main)
+
 pub written_stands : (a : HeaderOptions) (s : Stream) → MayBeInHeaders a → first_zero a.wanted.precincts s ≡ None → HeadersStand s → HeadersStand (stream_written a s)
 unfolding stream_written
 written_stands a s may none stand =
     let comps = length s.siz.comps in
     let clear = is_clear a.wanted.precincts s none in
+    let m : MainOrder = main_order s.main in
+    let n : MainOrder = main_order (main_written a comps s.main) in
+    let main = main_in a s may none stand in
     record {
       siz = siz_written a.wanted.rsiz s.siz stand.siz;
       few = few_tiles s.siz (rsiz_written a.wanted.rsiz s.siz.rsiz) stand.few;
-      main = segments_written a Main comps [] [] s.main may clear.main (λ slot k. k) stand.main;
-      defaults = both_there a s.main stand.defaults;
-      count = length-map s.tiles (tile_written a s.main) ∙ stand.count;
-      each = All-map (IsHeaded comps) (tile_written a s.main) s.tiles (λ i d lt. tile_stands a comps s.main (get_or s.tiles i d) may (clear.tiles i d lt) (stand.each i d lt));
-      entries = entries_kept a comps s.main s.tiles stand.each stand.entries;
-      planes = ap (λ (xs : List ℕ). limit_4_of (find (nat_lt 74) xs)) (all_planes_kept a comps s.main s.tiles stand.each) ∙ stand.planes;
+      main = main;
+      defaults = both_there a comps s.main stand.defaults;
+      count = length-map s.tiles (tile_written a comps m n) ∙ stand.count;
+      each = All-map (IsHeaded comps) (tile_written a comps m n) s.tiles (λ i d lt. each_stands a comps s.main (get_or s.tiles i d) may main (clear.tiles i d lt) (stand.each i d lt));
+      entries = entries_kept a comps s.main m n s.tiles stand.each stand.entries;
+      planes = ap (λ (xs : List ℕ). limit_4_of (find (nat_lt 74) xs)) (all_planes_kept a comps s.main m n s.tiles stand.each) ∙ stand.planes;
     }
-
--- the one entry of a tile
-
-one_entry : (o p : Option Segment) (cod : Cod) → cod_in (option_or o p) ≡ Some cod → or_list (entry_in o) (entry_in p) ≡ entry_of cod ∷ []
-one_entry None None cod e = absurd (cc)
-one_entry None (Some (segment.Cod other)) cod e = let same : other ≡ cod = cc in ap (λ (x : Cod). entry_of x ∷ []) same
-one_entry None (Some _) cod e = absurd (cc)
-one_entry (Some (segment.Cod other)) p cod e = let same : other ≡ cod = cc in ap (λ (x : Cod). entry_of x ∷ []) same
-one_entry (Some _) p cod e = absurd (cc)
-
-pub entries_are : (a : HeaderOptions) (s : Stream) (stand : HeadersStand s) (t : ℕ) → t < length s.tiles
-    → (tile_at (stream_written a s) t).progressions ≡ entry_of (cod_written a (coded_at s stand t).cod) ∷ []
-entries_are a s stand t inside =
-    let x : Tile = tile_at s t in
-    let h : IsHeaded (length s.siz.comps) x = stand.each t no_tile inside in
-    let same : header_of s t ≡ x.header = ap header_in (slice_get-get_or s.tiles t no_tile inside) in
-    let cod : Cod = (coded_at s stand t).cod in
-    let is : cod_of x.header s.main ≡ Some cod = ap (λ (xs : List Segment). cod_of xs s.main) (sym same) ∙ (coded_at s stand t).is in
-    let there : cod_of (tile_header a x) (all_written a s.main) ≡ Some (cod_written a cod) =
-    cod_slots a (tile_header a x) x.header (all_written a s.main) s.main (tile_slots a (length s.siz.comps) x h) (λ slot g. slot_written a slot s.main g) ∙ ap (option_map (cod_written a)) is in
-    ap (λ (y : Tile). y.progressions) (tile_is a s stand t inside) ∙ one_entry (in_slot 1 (tile_header a x)) (in_slot 1 (all_written a s.main)) (cod_written a cod) there
+  where
+    each_stands : (a : HeaderOptions) (comps : ℕ) (main : List Segment) (t : Tile) → MayBeInHeaders a → AreSegments Main comps [] (main_written a comps main)
+        → tile_has_zero a.wanted.precincts t ≡ false → IsHeaded comps t
+        → IsHeaded comps (tile_written a comps (main_order main) (main_order (main_written a comps main)) t)
+    each_stands a comps main t may are clear h =
+        let m : MainOrder = main_order main in
+        tile_stands a comps m (main_order (main_written a comps main)) t may clear h
+        (by_fit comps (main_written a comps main) (tile_header a comps m t) (segments_fit Main comps [] (main_written a comps main) are)
+        (segments_fit First comps [] (tile_header a comps m t) (header_stands a comps m t may clear h)))
 
 -- the shapes of headers that stand are in range
 
@@ -165,15 +178,15 @@ written_in_range a s may none stand r = record {
   some_comps = r.some_comps;
   few_comps = r.few_comps;
   few_tiles = r.few_tiles;
-  tiles = length-map s.tiles (tile_written a s.main) ∙ r.tiles;
+  tiles = length-map s.tiles (tile_written a (length s.siz.comps) (main_order s.main) (main_order (main_written a (length s.siz.comps) s.main))) ∙ r.tiles;
   shapes = λ t inside. shapes_in_range (stream_written a s) (written_stands a s may none stand) t;
   some_layers = λ t inside. omega (arith, layers_are a s stand t, may.some);
   few_layers = λ t inside. omega (arith, layers_are a s stand t, may.few);
   style = λ t c inside. omega (arith, style_stays a s stand t c, style_kept a.wanted.style (style_of s t c) 256 (small_style a.wanted.style may.style) (r.style t c inside));
   orders = λ t inside.
-      subst (λ (xs : List Progression). All (λ (e : Progression). IsOrderNumber e.order) xs) (sym (entries_are a s stand t (omega (arith, r.tiles))))
-      (All-cons (λ (e : Progression). IsOrderNumber e.order) (entry_of (cod_written a (coded_at s stand t).cod)) [] (order_kept a.wanted.order (coded_at s stand t).cod.order may.order (coded_at s stand t).fits.order)
-      (All-nil (λ (e : Progression). IsOrderNumber e.order)));
+      (let w : Stream = stream_written a s in
+      let headed : IsHeaded (length s.siz.comps) (tile_at w t) = (written_stands a s may none stand).each t no_tile (omega (arith, inside, length-map s.tiles (tile_written a (length s.siz.comps) (main_order s.main) (main_order (main_written a (length s.siz.comps) s.main))), r.tiles)) in
+      All-weaker (IsEntry (length s.siz.comps)) (λ (e : Progression). IsOrderNumber e.order) (has_order (length s.siz.comps)) (tile_at w t).progressions headed.progressions);
   planes = λ t c res band inside there has.
       (let same : HasResolution (geometry s t) c res = resolution_kept a.wanted.precincts (geometry s t) (geometry (stream_written a s) t) c res (shapes_stay a s stand t) there in
       omega (arith, planes_stay a s stand t c res band, r.planes t c res band inside same has));

@@ -9,7 +9,7 @@ use Rattle.jx_marker.specs.declared.Sot.{Sot}
 use Rattle.jx_marker.specs.Ranges.{InRange}
 use Rattle.jx_codestream.specs.declared.Body.{Body}
 use Rattle.jx_codestream.specs.declared.headers.HeaderKind.{HeaderKind}
-use Rattle.jx_codestream.specs.declared.headers.HeaderKind.TheVariants.{First, Later, PackedFirst, PackedLater}
+use Rattle.jx_codestream.specs.declared.headers.HeaderKind.TheVariants.{Main, First, Later, PackedFirst, PackedLater}
 use Rattle.jx_codestream.specs.declared.packed.PackedSegment.{PackedSegment}
 use Rattle.jx_codestream.specs.declared.parts.PlacedPart.{PlacedPart}
 use Rattle.jx_codestream.specs.declared.Stream.{Stream}
@@ -20,9 +20,10 @@ use Rattle.jx_codestream.specs.Tiles.{is_com, headers_of, first_header, tile_of,
 use Rattle.jx_codestream.specs.First.{tile_number}
 use Rattle.jx_codestream.specs.Spells.{TilePart, part_of, part_bytes, placed, first_sot, main_packed, AreSegments, AreTileParts, IsTilePart}
 use Rattle.jx_codestream.specs.Read.{IsRead}
-use Rattle.jx_codestream.proofs.SegmentLemmas.{HasFitting, parts_fit, headers_fit}
+use Rattle.jx_codestream.proofs.SegmentLemmas.{HasFitting, parts_fit, headers_fit, segments_fit}
 use Rattle.jx_codestream.proofs.SharesLemmas.{shares_keep}
 use Rattle.jx_plan.specs.Standing.{IsNote, IsHeaded, HeadersStand}
+use Rattle.jx_plan.proofs.EntryLemmas.{read_fit}
 
 -- the first tile-part of a tile has the number 0
 
@@ -86,12 +87,13 @@ first_same b t (q ∷ qs) parts = first_shared b t (data_in_order (q ∷ qs)) pa
 notes_fit : (comps : ℕ) (own : List Segment) → All (InRange comps) own → All (IsNote comps) (filter is_com own)
 notes_fit comps own fit k d inside = record { range = All-filter is_com (InRange comps) own fit k d inside; is = filter_passes is_com own k d inside }
 
-headed : (comps : ℕ) (main : List Segment) (parts : List PlacedPart) (t : ℕ) → AreSegments First comps [] (first_header (parts_of t parts)) → All (HasFitting comps) (parts_of t parts)
+headed : (comps : ℕ) (main : List Segment) (parts : List PlacedPart) (t : ℕ) → All (InRange comps) main → AreSegments First comps [] (first_header (parts_of t parts)) → All (HasFitting comps) (parts_of t parts)
     → IsHeaded comps (tile_of main parts t)
 unfolding tile_of
-headed comps main parts t header fit = record {
+headed comps main parts t there header fit = record {
   header = header;
   notes = notes_fit comps (headers_of (drop 1 (parts_of t parts))) (headers_fit comps (drop 1 (parts_of t parts)) (All-drop (HasFitting comps) 1 (parts_of t parts) fit));
+  progressions = read_fit comps main (parts_of t parts) there fit;
 }
 
 module _ (b : List ℕ) (s : Stream) (read : IsRead b s) where
@@ -116,7 +118,7 @@ module _ (b : List ℕ) (s : Stream) (read : IsRead b s) where
       (first_stands (has_packed s.main) comps (tile_number s.siz) t read.spelled.rest [] (first_sot s.siz s.main) read.spelled.parts refl read.spelled.tile_parts)
 
   tile_headed : (t : ℕ) → IsHeaded comps (tile_of s.main parts t)
-  tile_headed t = headed comps s.main parts t (first_own t) (own_fit t)
+  tile_headed t = headed comps s.main parts t (segments_fit Main comps [] s.main read.spelled.main) (first_own t) (own_fit t)
 
   pub read_stands : HeadersStand s
   read_stands = record {

@@ -19,20 +19,21 @@ use Rattle.jx_codestream.specs.Spells.{IsSegment, AreSegments}
 use Rattle.jx_plan.specs.Headers.{HeaderOptions, MayBeInHeaders, item_at, bytes_for, order_written, precincts_written, shape_written, style_written, written, is_written, all_written}
 use Rattle.jx_plan.specs.Fits.{shape_has_zero, has_zero}
 use Rattle.jx_plan.specs.Asides.{IsAside}
+use Rattle.jx_plan.proofs.EntryLemmas.{kept_poc}
 use Rattle.jx_plan.proofs.WrittenLemmas.{slot_kept}
 
 -- each kind that is among the first is among the second
 abbrev pub Fewer : List Segment → List Segment → Type 0
 Fewer xs ys = (slot : ℕ) → has_slot slot ys ≡ false → has_slot slot xs ≡ false
 
-has_before : (slot : ℕ) (xs : List Segment) (s : Segment) → has_slot slot (xs ++ s ∷ []) ≡ false → (has_slot slot xs ≡ false) × ((slot_of s == slot) ≡ false)
+pub has_before : (slot : ℕ) (xs : List Segment) (s : Segment) → has_slot slot (xs ++ s ∷ []) ≡ false → (has_slot slot xs ≡ false) × ((slot_of s == slot) ≡ false)
 has_before slot [] s h = (refl, (or_parts (slot_of s == slot) (has_slot slot []) h).0)
 has_before slot (x ∷ xs) s h =
     let e = or_parts (slot_of x == slot) (has_slot slot (xs ++ s ∷ [])) h in
     let r = has_before slot xs s e.1 in
     (rw e.0 r.0, r.1)
 
-has_neither : (slot : ℕ) (xs : List Segment) (s : Segment) → has_slot slot xs ≡ false → (slot_of s == slot) ≡ false → has_slot slot (xs ++ s ∷ []) ≡ false
+pub has_neither : (slot : ℕ) (xs : List Segment) (s : Segment) → has_slot slot xs ≡ false → (slot_of s == slot) ≡ false → has_slot slot (xs ++ s ∷ []) ≡ false
 has_neither slot [] s h k = rw k refl
 has_neither slot (x ∷ xs) s h k =
     let e = or_parts (slot_of x == slot) (has_slot slot xs) h in
@@ -118,6 +119,7 @@ range_kept a comps (segment.Cod cod) may h r = record {
   shape = shape_kept a.wanted.precincts a.wanted.style cod.shape may.bytes may.style h r.shape;
 }
 range_kept a comps (segment.Coc comp shape) may h r = record { index = r.index; word = r.word; fits = shape_kept a.wanted.precincts a.wanted.style shape may.bytes may.style h r.fits }
+range_kept a comps (segment.Poc entries) may h r = kept_poc comps entries r
 range_kept a comps _ may h r = r
 
 stands_kept : (kind : HeaderKind) (a : HeaderOptions) (s : Segment) → stands_in kind (written a s) ≡ stands_in kind s
@@ -127,20 +129,27 @@ stands_kept Later a (segment.Cod cod) = refl
 stands_kept PackedFirst a (segment.Cod cod) = refl
 stands_kept PackedLater a (segment.Cod cod) = refl
 stands_kept Main a (segment.Coc comp shape) = refl
+stands_kept Main a (segment.Poc entries) = refl
 stands_kept First a (segment.Coc comp shape) = refl
+stands_kept First a (segment.Poc entries) = refl
 stands_kept Later a (segment.Coc comp shape) = refl
+stands_kept Later a (segment.Poc entries) = refl
 stands_kept PackedFirst a (segment.Coc comp shape) = refl
+stands_kept PackedFirst a (segment.Poc entries) = refl
 stands_kept PackedLater a (segment.Coc comp shape) = refl
+stands_kept PackedLater a (segment.Poc entries) = refl
 stands_kept kind a _ = refl
 
 ppt_kept : (a : HeaderOptions) (s : Segment) → is_ppt (written a s) ≡ is_ppt s
 ppt_kept a (segment.Cod cod) = refl
 ppt_kept a (segment.Coc comp shape) = refl
+ppt_kept a (segment.Poc entries) = refl
 ppt_kept a _ = refl
 
 inside_kept : (a : HeaderOptions) (s : Segment) → ends_header (written a s) ≡ ends_header s
 inside_kept a (segment.Cod cod) = refl
 inside_kept a (segment.Coc comp shape) = refl
+inside_kept a (segment.Poc entries) = refl
 inside_kept a _ = refl
 
 segment_written : (a : HeaderOptions) (kind : HeaderKind) (comps : ℕ) (xs ys : List Segment) (s : Segment) → MayBeInHeaders a → has_zero a.wanted.precincts s ≡ false → Fewer xs ys
@@ -158,7 +167,7 @@ pub segments_written : (a : HeaderOptions) (kind : HeaderKind) (comps : ℕ) (xs
 segments_written a kind comps xs ys [] may h f are = tt
 segments_written a kind comps xs ys (s ∷ ss) may h f are =
     let clear = or_parts (has_zero a.wanted.precincts s) (list_any (has_zero a.wanted.precincts) ss) h in
-    elim (cases_Bool (is_written s)) [
+    elim (cases_Bool (is_written a.wanted.changes s)) [
       | inl t ↦ rw t (
         segment_written a kind comps xs ys s may clear.0 f are.0,
         segments_written a kind comps (xs ++ written a s ∷ []) (ys ++ s ∷ []) ss may clear.1 (fewer_both a xs ys s f) are.1,

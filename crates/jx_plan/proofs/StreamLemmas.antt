@@ -6,6 +6,7 @@ use Rattle.std.proofs.lemmas.List.{get_or-map}
 use Rattle.std.proofs.lemmas.List.Elements.{All-nil, All-head, All-tail, All-weaker}
 use Rattle.jx_base.specs.declared.names.Band.{Band}
 use Rattle.jx_base.specs.declared.style.Style.{Style}
+use Rattle.jx_marker.specs.declared.Progression.{Progression}
 use Rattle.jx_marker.specs.declared.Segment.{Segment}
 use Rattle.jx_marker.specs.declared.Segment.TheVariants as segment
 use Rattle.jx_marker.specs.declared.Shape.{Shape}
@@ -23,11 +24,14 @@ use Rattle.jx_codestream.specs.First.{canvas_of, tile_number}
 use Rattle.jx_codestream.specs.Params.{chosen, precincts_of, shape_of, quant_of, shift_of, cod_in, cod_of, shape_or, quant_or, cod_or, params_from, params_by, header_in, header_of, params_of, step_of, planes_at}
 use Rattle.jx_codestream.specs.Shapes.{shapes_of, geometry, layers_of, style_of, tile_at, no_tile}
 use Rattle.jx_codestream.proofs.SegmentLemmas.{segments_fit, defaults_there, slot_chosen, or_chosen, slot_there, or_there, chosen_fits, chosen_there, IsShaped, shape_there, IsCoded, cod_there}
-use Rattle.jx_plan.specs.Headers.{HeaderOptions, cod_written, comp_written, exponents_written, params_written, precincts_written, shape_written, style_written, written, all_written, tile_header, tile_written, stream_written}
+use Rattle.jx_plan.specs.Headers.{HeaderOptions, cod_written, comp_written, exponents_written, params_written, precincts_written, shape_written, style_written, written, all_written, main_written, tile_header, tile_written, stream_written}
 use Rattle.jx_plan.specs.Asides.{IsAside}
+use Rattle.jx_plan.specs.Changes.{MainOrder, main_order, tile_entries, with_entries}
 use Rattle.jx_plan.specs.Standing.{IsNote, IsHeaded, HeadersStand}
 use Rattle.jx_plan.proofs.AlikeLemmas.{HeadersAlike, IsThere, shape_same, quant_same, shift_same, step_same, planes_same, shapes_same}
 use Rattle.jx_plan.proofs.WrittenLemmas.{alike_written, alike_to, slot_written, slot_more, cod_kept}
+use Rattle.jx_plan.proofs.ChangeLemmas.{or_map, with_slots}
+use Rattle.jx_plan.proofs.ChangeLemmas.{main_slots as slots_of_main}
 use Rattle.jx_plan.proofs.MoreLemmas.{or_same}
 
 note_aside : (comps : ℕ) (s : Segment) → IsNote comps s → IsAside comps s
@@ -42,21 +46,19 @@ notes_aside comps notes h = All-weaker (IsNote comps) (IsAside comps) (note_asid
 abbrev pub SlotsWritten : HeaderOptions → List Segment → List Segment → Type 0
 SlotsWritten a xs ys = (slot : ℕ) → gives slot ≡ true → in_slot slot xs ≡ option_map (written a) (in_slot slot ys)
 
-pub tile_slots : (a : HeaderOptions) (comps : ℕ) (t : Tile) → IsHeaded comps t → SlotsWritten a (tile_header a t) t.header
-tile_slots a comps t h slot g = slot_more comps slot (all_written a t.header) t.notes g (notes_aside comps t.notes h.notes) ∙ slot_written a slot t.header g
+pub tile_slots : (a : HeaderOptions) (comps : ℕ) (m : MainOrder) (t : Tile) → IsHeaded comps t → SlotsWritten a (tile_header a comps m t) t.header
+tile_slots a comps m t h slot g =
+    let es : List Progression = tile_entries comps a.wanted.changes m t in
+    slot_more comps slot (with_entries es (all_written a t.header)) t.notes g (notes_aside comps t.notes h.notes) ∙ with_slots es slot (all_written a t.header) g ∙ slot_written a slot t.header g
 
-header_slots : (a : HeaderOptions) (main : List Segment) (comps : ℕ) (tiles : List Tile) (t : ℕ) → All (IsHeaded comps) tiles
-    → SlotsWritten a (header_in (slice_get (map (tile_written a main) tiles) t)) (header_in (slice_get tiles t))
-header_slots a main comps [] t h slot g = refl
-header_slots a main comps (x ∷ xs) zero h slot g = tile_slots a comps x (All-head (IsHeaded comps) x xs h) slot g
-header_slots a main comps (x ∷ xs) (suc t) h slot g = header_slots a main comps xs t (All-tail (IsHeaded comps) x xs h) slot g
+header_slots : (a : HeaderOptions) (m n : MainOrder) (comps : ℕ) (tiles : List Tile) (t : ℕ) → All (IsHeaded comps) tiles
+    → SlotsWritten a (header_in (slice_get (map (tile_written a comps m n) tiles) t)) (header_in (slice_get tiles t))
+header_slots a m n comps [] t h slot g = refl
+header_slots a m n comps (x ∷ xs) zero h slot g = tile_slots a comps m x (All-head (IsHeaded comps) x xs h) slot g
+header_slots a m n comps (x ∷ xs) (suc t) h slot g = header_slots a m n comps xs t (All-tail (IsHeaded comps) x xs h) slot g
 
 pub slots_alike : (a : HeaderOptions) (xs ys : List Segment) → SlotsWritten a xs ys → HeadersAlike a.wanted.precincts a.wanted.style xs ys
 slots_alike a xs ys h slot g = alike_to a.wanted.precincts a.wanted.style (in_slot slot xs) (option_map (written a) (in_slot slot ys)) (in_slot slot ys) (h slot g) (alike_written a (in_slot slot ys))
-
-or_map : (f : Segment → Segment) (x y : Option Segment) → option_or (option_map f x) (option_map f y) ≡ option_map f (option_or x y)
-or_map f None y = refl
-or_map f (Some s) y = refl
 
 pub cod_slots : (a : HeaderOptions) (own other main there : List Segment) → SlotsWritten a own other → SlotsWritten a main there → cod_of own main ≡ option_map (cod_written a) (cod_of other there)
 cod_slots a own other main there here mains =
@@ -128,11 +130,11 @@ canvas_stays a s = refl
 module _ (a : HeaderOptions) (s : Stream) (stand : HeadersStand s) where
   pub own_slots : (t : ℕ) → SlotsWritten a (header_of (stream_written a s) t) (header_of s t)
   unfolding stream_written
-  own_slots t = header_slots a s.main (length s.siz.comps) s.tiles t stand.each
+  own_slots t = header_slots a (main_order s.main) (main_order (main_written a (length s.siz.comps) s.main)) (length s.siz.comps) s.tiles t stand.each
 
   pub main_slots : SlotsWritten a (stream_written a s).main s.main
   unfolding stream_written
-  main_slots slot g = slot_written a slot s.main g
+  main_slots slot g = slots_of_main a (length s.siz.comps) s.main slot g
 
   own_alike : (t : ℕ) → HeadersAlike a.wanted.precincts a.wanted.style (header_of (stream_written a s) t) (header_of s t)
   own_alike t = slots_alike a (header_of (stream_written a s) t) (header_of s t) (own_slots t)
@@ -173,6 +175,7 @@ module _ (a : HeaderOptions) (s : Stream) (stand : HeadersStand s) where
   pub own_style : a.wanted.style ≡ None → (t c : ℕ) → style_of (stream_written a s) t c ≡ style_of s t c
   own_style none t c = style_stays t c ∙ ap (λ (o : Option Style). (style_written o (record { bits = style_of s t c })).bits) none
 
-  pub tile_is : (t : ℕ) → t < length s.tiles → tile_at (stream_written a s) t ≡ tile_written a s.main (tile_at s t)
+  pub tile_is : (t : ℕ) → t < length s.tiles → tile_at (stream_written a s) t
+      ≡ tile_written a (length s.siz.comps) (main_order s.main) (main_order (main_written a (length s.siz.comps) s.main)) (tile_at s t)
   unfolding stream_written
-  tile_is t inside = get_or-map (tile_written a s.main) s.tiles t no_tile no_tile inside
+  tile_is t inside = get_or-map (tile_written a (length s.siz.comps) (main_order s.main) (main_order (main_written a (length s.siz.comps) s.main))) s.tiles t no_tile no_tile inside

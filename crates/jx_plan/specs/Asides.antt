@@ -24,9 +24,8 @@ is_informational (segment.Crg bytes) = true
 is_informational (segment.Com bytes) = true
 is_informational _ = false
 
--- what no written header has: POC, TLM, PLM, PPM, PPT and the markers FF30 to FF3F (A.6.6, A.7.1, A.7.2, A.7.4, A.7.5 and Table A.1)
+-- what no written header has: TLM, PLM, PPM, PPT and the markers FF30 to FF3F (A.7.1, A.7.2, A.7.4, A.7.5 and Table A.1)
 abbrev pub is_left_out : Segment → Bool
-is_left_out (segment.Poc entries) = true
 is_left_out (segment.Tlm bytes) = true
 is_left_out (segment.Plm bytes) = true
 is_left_out (segment.Ppm index bytes) = true

@@ -1,4 +1,4 @@
--- What is in the way of a plan in the blocks and in the headers: choice 1; limit 7 and choices 5, 10 and 11, of so many layers.
+-- What is in the way of a plan in the blocks and in the headers: choice 1; limit 7 and choices 12, 5, 10 and 11, of so many layers.
 use Rattle.std.specs.Prelude.{◌≡◌, ◌⊎◌, ◌<◌, ◌≤◌, ℕ, List, Option, None, Some}
 use Rattle.jx_base.specs.declared.pieces.Block.{Block}
 use Rattle.jx_base.specs.declared.style.Style.{Style}
@@ -12,6 +12,7 @@ use Rattle.jx_plan.specs.Fits.{Fits}
 use Rattle.jx_tile_parts.specs.Groups.{HasFewEntries, HasFewParts, HasManyEntries, IsPartedAt}
 use Rattle.jx_plan.specs.Plan.{headers_with, most_packets}
 use Rattle.jx_plan.specs.Profile.{unclaimed}
+use Rattle.jx_plan.specs.Strays.{HasNoStray, IsStray}
 use Rattle.jx_options.specs.Wanted.{Wanted}
 
 -- limit 7, of so many layers
@@ -20,16 +21,24 @@ pub record PassesPackets (s : Stream) (w : Wanted) (layers found : ℕ) : Type 0
   pub count : found ≡ packet_total (headers_with w layers s)
   pub many : most_packets < found
 
+-- choice 12, of so many layers
+pub record HasStrayAt (s : Stream) (w : Wanted) (layers place : ℕ) : Type 0 where
+  pub fits : Fits w.precincts s
+  pub few : packet_total (headers_with w layers s) ≤ most_packets
+  pub stray : IsStray s w layers place
+
 -- choice 5, of so many layers
 pub record HasManyPartsAt (s : Stream) (w : Wanted) (layers place : ℕ) : Type 0 where
   pub fits : Fits w.precincts s
   pub few : packet_total (headers_with w layers s) ≤ most_packets
+  pub placed : HasNoStray s w layers
   pub many : IsPartedAt w.marks.parts (headers_with w layers s) place
 
 -- choice 10, of so many layers
 pub record HasManyEntriesAt (s : Stream) (w : Wanted) (layers place : ℕ) : Type 0 where
   pub fits : Fits w.precincts s
   pub few : packet_total (headers_with w layers s) ≤ most_packets
+  pub placed : HasNoStray s w layers
   pub parts : (t : ℕ) → t < tile_number s.siz → HasFewParts w.marks.parts (headers_with w layers s) t
   pub many : HasManyEntries w.marks (headers_with w layers s)
   pub place_is : place ≡ 0
@@ -38,6 +47,7 @@ pub record HasManyEntriesAt (s : Stream) (w : Wanted) (layers place : ℕ) : Typ
 pub record IsUnclaimedAt (s : Stream) (w : Wanted) (layers place : ℕ) : Type 0 where
   pub fits : Fits w.precincts s
   pub few : packet_total (headers_with w layers s) ≤ most_packets
+  pub placed : HasNoStray s w layers
   pub parts : (t : ℕ) → t < tile_number s.siz → HasFewParts w.marks.parts (headers_with w layers s) t
   pub entries : HasFewEntries w.marks (headers_with w layers s)
   pub first : unclaimed w.marks (headers_with w layers s) ≡ Some place
@@ -57,6 +67,7 @@ IsPlaneBroken style blocks fault.NoMemory = ⊥
 pub record IsFree (s : Stream) (w : Wanted) (layers : ℕ) : Type 0 where
   pub fits : Fits w.precincts s
   pub few : packet_total (headers_with w layers s) ≤ most_packets
+  pub placed : HasNoStray s w layers
   pub parts : (t : ℕ) → t < tile_number s.siz → HasFewParts w.marks.parts (headers_with w layers s) t
   pub entries : HasFewEntries w.marks (headers_with w layers s)
   pub claimed : unclaimed w.marks (headers_with w layers s) ≡ None

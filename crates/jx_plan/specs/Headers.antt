@@ -1,7 +1,8 @@
--- The headers of the file that is written, as a stream without tile data: Rsiz is 0, or kept where that is asked; POC, PLT, PLM, TLM,
--- PPM, PPT and skipped markers are left out; COD announces SOP and EPH as asked and has the order and the number of layers that are written; COD and COC have the precincts
--- and the style that are asked; a tile's first header takes the COM segments of its later ones; all else is kept (ITU-T T.800, A.4 to A.9).
-use Rattle.std.specs.Prelude.{◌≤◌, ◌<◌, ◌^◌, ℕ, ◌+◌, ◌-◌, min, Bool, true, false, List, [], ◌∷◌, ◌++◌, length, map, Option, None, Some, IfSome, slice_index_or}
+-- The headers of the file that is written, as a stream without tile data: Rsiz is 0, or kept where that is asked; PLT, PLM, TLM, PPM, PPT
+-- and skipped markers are left out; POC is left out, kept, or made of volumes as asked; COD announces SOP and EPH as asked and has the
+-- order and the number of layers that are written; COD and COC have the precincts and the style that are asked; a tile's first header
+-- takes the COM segments of its later ones; all else is kept (ITU-T T.800, A.4 to A.9).
+use Rattle.std.specs.Prelude.{◌≡◌, ◌⊎◌, ◌≤◌, ◌<◌, ◌^◌, ℕ, ◌+◌, ◌-◌, min, Bool, true, false, List, [], ◌∷◌, ◌++◌, drop, length, map, take, Option, None, Some, IfSome, slice_index_or}
 use Rattle.std.specs.List.{filter, range_with_len}
 use Rattle.jx_base.specs.declared.style.Style.{Style}
 use Rattle.jx_base.specs.OrderNumbers.{IsOrderNumber}
@@ -12,15 +13,15 @@ use Rattle.jx_marker.specs.declared.Segment.{Segment}
 use Rattle.jx_marker.specs.declared.Segment.TheVariants as segment
 use Rattle.jx_marker.specs.declared.Cod.{Cod}
 use Rattle.jx_marker.specs.declared.Progression.{Progression}
+use Rattle.jx_options.specs.Volumes.{AreVolumes}
 use Rattle.jx_options.specs.Wanted.{Wanted}
 use Rattle.jx_options.specs.declared.RsizChoice.{RsizChoice}
 use Rattle.jx_options.specs.declared.RsizChoice.TheVariants as rsiz
-use Rattle.jx_codestream.specs.Headers.{cod_slot}
 use Rattle.jx_codestream.specs.declared.Tile.{Tile}
 use Rattle.jx_codestream.specs.declared.Stream.{Stream}
 use Rattle.jx_codestream.specs.declared.Params.{Params}
 use Rattle.jx_codestream.specs.Params.{precincts_of}
-use Rattle.jx_codestream.specs.Tiles.{in_slot, entry_in, or_list}
+use Rattle.jx_plan.specs.Changes.{MainOrder, coding_end, entries_by, entry_kept, keeps_changes, main_order, poc_of, tile_entries, volumes_written, with_entries}
 
 -- what is asked of the headers: what is wanted, and the number of layers that a planner makes of its words
 pub record HeaderOptions : Type 0 where
@@ -34,6 +35,7 @@ pub record MayBeInHeaders (a : HeaderOptions) : Type 0 where
   pub some : 1 ≤ a.layers
   pub few : a.layers < 2 ^ 16
   pub order : IfSome a.wanted.order IsOrderNumber
+  pub changes : IfSome a.wanted.changes (λ entries. (entries ≡ []) ⊎ AreVolumes entries)
   pub bytes : IfSome a.wanted.precincts AreBytes
   pub style : IfSome a.wanted.style (λ (style : Style). style.bits < 64)
 
@@ -72,44 +74,39 @@ cod_written a cod = record cod { sop = a.wanted.marks.sop; eph = a.wanted.marks.
 abbrev pub written : HeaderOptions → Segment → Segment
 written a (segment.Cod cod) = segment.Cod (cod_written a cod)
 written a (segment.Coc comp shape) = segment.Coc comp (shape_written a.wanted.precincts a.wanted.style shape)
+written a (segment.Poc entries) = segment.Poc (map entry_kept entries)
 written a s = s
 
-abbrev pub is_written : Segment → Bool
-is_written (segment.Poc entries) = false
-is_written (segment.Plt bytes) = false
-is_written (segment.Plm bytes) = false
-is_written (segment.Tlm bytes) = false
-is_written (segment.Ppm index bytes) = false
-is_written (segment.Ppt index bytes) = false
-is_written (segment.Skipped code) = false
-is_written _ = true
+abbrev pub is_written : Option (List Progression) → Segment → Bool
+is_written changes (segment.Poc entries) = keeps_changes changes
+is_written changes (segment.Plt bytes) = false
+is_written changes (segment.Plm bytes) = false
+is_written changes (segment.Tlm bytes) = false
+is_written changes (segment.Ppm index bytes) = false
+is_written changes (segment.Ppt index bytes) = false
+is_written changes (segment.Skipped code) = false
+is_written changes _ = true
 
 -- the segments of a header in their order
 abbrev pub all_written : HeaderOptions → List Segment → List Segment
-all_written a segments = map (written a) (filter is_written segments)
+all_written a segments = map (written a) (filter (is_written a.wanted.changes) segments)
 
--- that of a tile's first tile-part, up to PLT
-abbrev pub tile_header : HeaderOptions → Tile → List Segment
-tile_header a t = all_written a t.header ++ t.notes
+-- the main header of a picture of so many components, with the volumes that are asked behind its last COD or COC
+abbrev pub main_written : HeaderOptions → ℕ → List Segment → List Segment
+main_written a comps main =
+    all_written a (take (coding_end main) main) ++ (poc_of (volumes_written comps a.wanted.changes) ++ all_written a (drop (coding_end main) main))
 
--- a tile, with the one entry of its COD, else these
-abbrev pub tile_over : HeaderOptions → List Progression → Tile → Tile
-tile_over a entries t = record {
+-- the header of a tile's first tile-part, up to PLT, where the main header that was read says this order
+abbrev pub tile_header : HeaderOptions → ℕ → MainOrder → Tile → List Segment
+tile_header a comps m t = with_entries (tile_entries comps a.wanted.changes m t) (all_written a t.header) ++ t.notes
+
+-- a tile, of which the packets stand in the order that its header and the main header say that are written
+abbrev pub tile_written : HeaderOptions → ℕ → MainOrder → MainOrder → Tile → Tile
+tile_written a comps m n t = record {
   place = 0;
-  header = tile_header a t;
+  header = tile_header a comps m t;
   notes = [];
-  progressions = or_list (entry_in (in_slot cod_slot (tile_header a t))) entries;
-  heads = None;
-  bodies = [];
-}
-
--- a tile, with the one entry of its COD, else of the main one
-abbrev pub tile_written : HeaderOptions → List Segment → Tile → Tile
-tile_written a main t = record {
-  place = 0;
-  header = tile_header a t;
-  notes = [];
-  progressions = or_list (entry_in (in_slot cod_slot (tile_header a t))) (entry_in (in_slot cod_slot (all_written a main)));
+  progressions = entries_by n (tile_header a comps m t);
   heads = None;
   bodies = [];
 }
@@ -122,8 +119,8 @@ rsiz_written rsiz.Keep profile = profile
 unfoldable pub stream_written : HeaderOptions → Stream → Stream
 stream_written a s = record {
   siz = record s.siz { rsiz = rsiz_written a.wanted.rsiz s.siz.rsiz };
-  main = all_written a s.main;
-  tiles = map (tile_written a s.main) s.tiles;
+  main = main_written a (length s.siz.comps) s.main;
+  tiles = map (tile_written a (length s.siz.comps) (main_order s.main) (main_order (main_written a (length s.siz.comps) s.main))) s.tiles;
 }
 
 -- what comes of the parameters of a tile-component: order, layers, the exponents of 33 resolutions, and style

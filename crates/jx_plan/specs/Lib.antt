@@ -2,11 +2,13 @@ pub mod Layers
 pub mod Crowded
 pub mod Facts
 pub mod Causal
+pub mod Changes
 pub mod Headers
 pub mod Fits
 pub mod Profile
 pub mod Standing
 pub mod Asides
+pub mod Strays
 pub mod Plan
 pub mod Meaning
 pub mod Causes

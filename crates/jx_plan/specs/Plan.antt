@@ -22,6 +22,7 @@ use Rattle.jx_plan.specs.Headers.{stream_written, with_layers}
 use Rattle.jx_options.specs.Wanted.{MayBeWanted, Wanted}
 use Rattle.jx_plan.specs.Profile.{unclaimed}
 use Rattle.jx_plan.specs.Standing.{HeadersStand}
+use Rattle.jx_plan.specs.Strays.{HasNoStray}
 
 -- a stream that was read, with its blocks
 pub record MayBePlanned (s : Stream) (blocks : List Block) : Type 0 where
@@ -66,6 +67,8 @@ pub record IsPlan (p : Plan) : Type 0 where
   pub some : 1 ≤ p.layers
   pub few : p.layers < 2 ^ 16
   pub packets : packet_total (headers_of p) ≤ most_packets
+  -- choice 12
+  pub placed : HasNoStray p.stream p.wanted p.layers
   pub all : length p.jobs ≡ length p.blocks
   pub each : (number : ℕ) (job : Job) → slice_get p.jobs number ≡ Some job → IsJob p.wanted.style p.blocks number job
   pub below : (number : ℕ) (job : Job) → slice_get p.jobs number ≡ Some job → All (λ (e : LayerEnd). e.layer < p.layers) job.ends

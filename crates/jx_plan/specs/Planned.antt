@@ -1,5 +1,5 @@
 -- What is planned by a planner that was handed in, and why nothing is: choice 1; choice 3; choice 2; choice 6, where no planner serves the words
--- or it makes no rule of them; limit 7; choice 4; choice 5;
+-- or it makes no rule of them; limit 7; choice 12; choice 4; choice 5;
 -- choice 10; choice 11.
 use Rattle.std.specs.Prelude.{◌≡◌, ◌⊎◌, ◌<◌, ◌≤◌, ◌^◌, ℕ, Bool, List, [], ◌∷◌, Option, None, Some, if◌then◌else◌}
 use Rattle.jx_base.specs.declared.pieces.Block.{Block}
@@ -16,8 +16,9 @@ use Rattle.jx_plan.specs.Layers.{AreJobs, written_by}
 use Rattle.jx_plan.specs.Crowded.{IsLowestCrowdedBlock}
 use Rattle.jx_plan.specs.Facts.{facts_of}
 use Rattle.jx_plan.specs.Fits.{AreUnfit, Fits}
-use Rattle.jx_plan.specs.Causes.{IsFree, IsLate, IsPlaneBroken, PassesPackets}
+use Rattle.jx_plan.specs.Causes.{HasStrayAt, IsFree, IsLate, IsPlaneBroken, PassesPackets}
 use Rattle.jx_plan.specs.Plan.{Plan, headers_with, most_packets}
+use Rattle.jx_plan.specs.Strays.{HasNoStray}
 use Rattle.jx_options.specs.Wanted.{Wanted}
 
 -- so many layers and these jobs, by the rule that there is
@@ -64,6 +65,7 @@ IsCrowded r s blocks lowest = IsLowestCrowdedBlock r (layers_of_rule r s blocks)
 pub record IsCrowdedAt (r : Rule) (s : Stream) (blocks : List Block) (w : Wanted) (place : ℕ) : Type 0 where
   pub fits : Fits w.precincts s
   pub few : packet_total (headers_with w (layers_of_rule r s blocks) s) ≤ most_packets
+  pub placed : HasNoStray s w (layers_of_rule r s blocks)
   pub lowest : IsCrowded r s blocks (Some place)
 
 -- choice 5, 10 or 11: the same, and no block is crowded
@@ -73,7 +75,9 @@ pub record IsLateBy (r : Rule) (s : Stream) (blocks : List Block) (w : Wanted) (
 
 -- why nothing is planned by a rule
 abbrev pub IsUnplannedBy : Rule → Stream → List Block → Wanted → PlanFault → Type 0
-IsUnplannedBy r s blocks w (fault.Choice number place) = ((number ≡ 4) × IsCrowdedAt r s blocks w place) ⊎ IsLateBy r s blocks w number place
+IsUnplannedBy r s blocks w (fault.Choice number place) =
+    ((number ≡ 12) × HasStrayAt s w (layers_of_rule r s blocks) place)
+    ⊎ (((number ≡ 4) × IsCrowdedAt r s blocks w place) ⊎ IsLateBy r s blocks w number place)
 IsUnplannedBy r s blocks w (fault.Limit number found) = (number ≡ 7) × PassesPackets s w (layers_of_rule r s blocks) found
 IsUnplannedBy r s blocks w fault.NoMemory = Unit {0}
 

@@ -3,7 +3,9 @@
 use Rattle.std.specs.Prelude.{◌≡◌, ℕ, true, false, [], length, find, None}
 use Rattle.std.specs.List.{All}
 use Rattle.jx_marker.specs.declared.Segment.{Segment}
-use Rattle.jx_marker.specs.Ranges.{InRange, SizInRange}
+use Rattle.jx_marker.specs.declared.Progression.{Progression}
+use Rattle.jx_marker.specs.Ranges.{InRange, ProgressionInRange, SizInRange}
+use Rattle.jx_marker.specs.Rules.{progression_fits}
 use Rattle.jx_codestream.specs.declared.headers.HeaderKind.TheVariants.{Main, First}
 use Rattle.jx_codestream.specs.declared.Tile.{Tile}
 use Rattle.jx_codestream.specs.declared.Stream.{Stream}
@@ -17,9 +19,15 @@ pub record IsNote (comps : ℕ) (s : Segment) : Type 0 where
   pub range : InRange comps s
   pub is : is_com s ≡ true
 
+-- an entry that a POC can have
+pub record IsEntry (comps : ℕ) (e : Progression) : Type 0 where
+  pub fits : progression_fits e ≡ true
+  pub range : ProgressionInRange comps e
+
 pub record IsHeaded (comps : ℕ) (t : Tile) : Type 0 where
   pub header : AreSegments First comps [] t.header
   pub notes : All (IsNote comps) t.notes
+  pub progressions : All (IsEntry comps) t.progressions
 
 pub record HeadersStand (s : Stream) : Type 0 where
   -- rules 1 to 5

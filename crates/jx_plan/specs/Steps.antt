@@ -9,6 +9,7 @@ use Rattle.jx_tile.specs.Totals.{packet_total}
 use Rattle.jx_codeblock.specs.declared.job.Job.{Job}
 use Rattle.jx_plan.specs.declared.faults.PlanFault.{PlanFault}
 use Rattle.jx_plan.specs.declared.faults.PlanFault.TheVariants as fault
+use Rattle.jx_plan.specs.Changes.{is_coding}
 use Rattle.jx_plan.specs.Crowded.{IsLowestCrowded}
 use Rattle.jx_plan.specs.Fits.{KeepsBlocks}
 use Rattle.jx_tile_parts.specs.Groups.{ArePartCounts, HasFewParts, HasManyEntries}
@@ -17,15 +18,10 @@ use Rattle.jx_codestream.specs.First.{tile_number}
 use Rattle.jx_base.specs.Joined.{sum_below}
 use Rattle.jx_options.specs.declared.Marks.{Marks}
 use Rattle.jx_options.specs.declared.PartChoice.{PartChoice}
-use Rattle.jx_plan.specs.Causes.{HasManyPartsAt, IsLate, PassesPackets}
+use Rattle.jx_plan.specs.Causes.{HasManyPartsAt, HasStrayAt, IsLate, PassesPackets}
 use Rattle.jx_plan.specs.Plan.{headers_with, most_packets}
+use Rattle.jx_plan.specs.Strays.{HasNoStray}
 use Rattle.jx_options.specs.Wanted.{Wanted}
-
--- COD or COC
-abbrev pub is_coding : Segment → Bool
-is_coding (segment.Cod cod) = true
-is_coding (segment.Coc comp shape) = true
-is_coding _ = false
 
 -- where it is known, the tiles that have neither keep their blocks
 abbrev pub IsKnown : Bool → Option (List ℕ) → Stream → Type 0
@@ -36,6 +32,12 @@ abbrev pub IsOverPackets : Stream → Wanted → ℕ → PlanFault → Type 0
 IsOverPackets s w layers (fault.Choice number place) = ⊥
 IsOverPackets s w layers (fault.Limit number found) = (number ≡ 7) × PassesPackets s w layers found
 IsOverPackets s w layers fault.NoMemory = Unit {0}
+
+-- choice 12 alone
+abbrev pub IsAnyStray : Stream → Wanted → ℕ → PlanFault → Type 0
+IsAnyStray s w layers (fault.Choice number place) = (number ≡ 12) × HasStrayAt s w layers place
+IsAnyStray s w layers (fault.Limit number found) = ⊥
+IsAnyStray s w layers fault.NoMemory = Unit {0}
 
 -- choice 5 alone
 abbrev pub IsOverParts : Stream → Wanted → ℕ → PlanFault → Type 0
@@ -64,10 +66,11 @@ IsTooLate s w layers (fault.Choice number place) = IsLate s w layers number plac
 IsTooLate s w layers (fault.Limit number found) = ⊥
 IsTooLate s w layers fault.NoMemory = Unit {0}
 
--- limit 7, choice 4, 5, 10 or 11, with these jobs
+-- limit 7, choice 12, 4, 5, 10 or 11, with these jobs
 abbrev pub IsTooMuch : Stream → Wanted → ℕ → List Job → PlanFault → Type 0
 IsTooMuch s w layers jobs (fault.Choice number place) =
-    ((number ≡ 4) × (packet_total (headers_with w layers s) ≤ most_packets) × IsLowestCrowded jobs (Some place))
-    ⊎ (IsLate s w layers number place × IsLowestCrowded jobs None)
+    ((number ≡ 12) × HasStrayAt s w layers place)
+    ⊎ (((number ≡ 4) × (packet_total (headers_with w layers s) ≤ most_packets) × HasNoStray s w layers × IsLowestCrowded jobs (Some place))
+    ⊎ (IsLate s w layers number place × IsLowestCrowded jobs None))
 IsTooMuch s w layers jobs (fault.Limit number found) = (number ≡ 7) × PassesPackets s w layers found
 IsTooMuch s w layers jobs fault.NoMemory = Unit {0}

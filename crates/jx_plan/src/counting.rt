@@ -9,6 +9,7 @@ ghost use Rattle.jx_tile_parts.specs.Groups.{HasFewEntries, HasFewParts};
 ghost use Rattle.jx_plan.specs.Plan.{headers_with, most_packets};
 ghost use Rattle.jx_plan.specs.Profile.{unclaimed};
 ghost use Rattle.jx_plan.specs.Standing.{HeadersStand};
+ghost use Rattle.jx_plan.specs.Strays.{HasNoStray};
 ghost use Rattle.jx_plan.specs.Steps.{AreAllParts, IsOverEntries, IsOverPackets, IsOverParts, IsTooLate};
 ghost use Rattle.jx_options.specs.Wanted.{MayBeWanted};
 
@@ -88,6 +89,7 @@ pub(crate) fn check_parts(
     requires some { 1 ≤ layers }
     requires written { written.now ≡ headers_with options.now layers stream.now }
     requires few { packet_total (headers_with options.now layers stream.now) ≤ most_packets }
+    requires placed { HasNoStray stream.now options.now layers }
     ensures few { OnOk result ((t : ℕ) → t < tile_number stream.now.siz → HasFewParts options.now.marks.parts (headers_with options.now layers stream.now) t) }
     ensures all { IfOk result (λ all. AreAllParts options.now.marks.parts written.now all) }
     ensures cause { IfErr result (λ e. IsOverParts stream.now options.now layers e) }
@@ -145,6 +147,7 @@ pub(crate) fn check_written(
     requires some { 1 ≤ layers }
     requires written { written.now ≡ headers_with options.now layers stream.now }
     requires few { packet_total (headers_with options.now layers stream.now) ≤ most_packets }
+    requires placed { HasNoStray stream.now options.now layers }
     ensures few { OnOk result ((t : ℕ) → t < tile_number stream.now.siz → HasFewParts options.now.marks.parts (headers_with options.now layers stream.now) t) }
     ensures entries { OnOk result (HasFewEntries options.now.marks (headers_with options.now layers stream.now)) }
     ensures claimed { OnOk result (unclaimed options.now.marks (headers_with options.now layers stream.now) ≡ None) }

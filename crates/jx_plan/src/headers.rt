@@ -1,33 +1,34 @@
 //! The headers of the file that is written (ITU-T T.800, A.4 to A.9).
 
-ghost use Rattle.std.specs.Prelude.{◌≡◌, ◌++◌, ◌+◌, ◌<◌, ◌==◌, IfOk, OnOk, Some, length, map};
+ghost use Rattle.std.specs.Prelude.{◌≡◌, ◌++◌, ◌+◌, ◌<◌, IfOk, OnOk, length, map};
 ghost use Rattle.std.specs.List.{range_with_len};
-ghost use Rattle.std.specs.Option.{option_to_list};
-ghost use Rattle.jx_codestream.specs.Headers.{cod_slot, slot_of};
-ghost use Rattle.jx_codestream.specs.Tiles.{entry_in, in_slot, or_list};
-ghost use Rattle.jx_plan.specs.Headers.{all_written, bytes_for, cod_written, is_written, item_at, order_written, precincts_written, rsiz_written, shape_written, stream_written, style_written, tile_over, with_layers, written};
-ghost use Rattle.jx_options.specs.Choices.{lent};
+ghost use Rattle.jx_plan.specs.Changes.{main_order};
+ghost use Rattle.jx_plan.specs.Headers.{all_written, bytes_for, cod_written, is_written, item_at, main_written, order_written, precincts_written, rsiz_written, shape_written, stream_written, style_written, tile_header, tile_written, with_layers, written};
+ghost use Rattle.jx_options.specs.Choices.{changes_in, lent};
 
+use crate::changes::{MainOrder, coding_end, push_volumes};
+use crate::own_entries::{poc_kept, tile_entries, with_entries};
 use jx_base::{NoMemory, Style};
-use jx_codestream::{Bodies, Entries, Heads, Segments, Stream, Tile, Tiles};
-use jx_marker::{Bytes, Cod, Progression, Segment, Shape, Siz};
-use jx_options::{Options, RsizChoice};
+use jx_codestream::{Bodies, Heads, Segments, Stream, Tile, Tiles};
+use jx_marker::{Bytes, Cod, Segment, Shape, Siz};
+use jx_options::{Options, PocChoice, RsizChoice};
 use std::alloc::Global;
 
-/// The segment is written: POC, packet and tile-part lengths, packed packet headers and skipped markers aren't.
-fn is_written(segment: &Segment) -> bool
-    ensures { result ≡ is_written segment.now }
+/// The segment is written: packet and tile-part lengths, packed packet headers and skipped markers aren't, nor is POC where the input's
+/// isn't kept.
+fn is_written(segment: &Segment, poc: &PocChoice) -> bool
+    ensures { result ≡ is_written (changes_in poc.now) segment.now }
 {
-    !matches!(
-        segment,
-        Segment::Poc(_)
-            | Segment::Plt(_)
-            | Segment::Plm(_)
-            | Segment::Tlm(_)
-            | Segment::Ppm { .. }
-            | Segment::Ppt { .. }
-            | Segment::Skipped(_)
-    )
+    match segment {
+        Segment::Poc(_) => matches!(poc, PocChoice::Keep),
+        Segment::Plt(_)
+        | Segment::Plm(_)
+        | Segment::Tlm(_)
+        | Segment::Ppm { .. }
+        | Segment::Ppt { .. }
+        | Segment::Skipped(_) => false,
+        _ => true,
+    }
 }
 
 /// The byte of a resolution, of which the last stands for all above.
@@ -137,6 +138,7 @@ fn copy_segment(
             comp: *comp,
             shape: copy_shape(alloc, shape, options)?,
         }),
+        Segment::Poc(entries) => poc_kept(alloc, entries),
         _ => segment.copy(),
     }
 }
@@ -152,7 +154,7 @@ fn push_written(
     ensures { OnOk result (into.new.items ≡ into.old.items ++ all_written (with_layers options.now layers) segments.now) }
 {
     for segment in segments {
-        if is_written(segment) {
+        if is_written(segment, &options.poc) {
             let copy = copy_segment(alloc, segment, options, layers)?;
             into.push(copy)?;
         }
@@ -171,78 +173,57 @@ fn push_copies(segments: &[Segment], into: &mut Vec<Segment>) -> Result<(), NoMe
     Ok(())
 }
 
-fn is_cod(segment: &Segment) -> bool
-    ensures { result ≡ (slot_of segment.now == 1) }
+/// The main header, with the volumes that are asked behind its last COD or COC.
+fn write_main(
+    alloc: Global,
+    main: &[Segment],
+    comps: u16,
+    options: &Options,
+    layers: u16,
+) -> Result<Vec<Segment>, NoMemory>
+    ensures { IfOk result (λ list. list.items ≡ main_written (with_layers options.now layers) comps main.now) }
 {
-    matches!(segment, Segment::Cod(_))
+    let (front, back) = main.split_at(coding_end(main));
+    let mut list = Vec::new(alloc);
+    push_written(alloc, front, options, layers, &mut list)?;
+    push_volumes(alloc, comps, &options.poc, &mut list)?;
+    push_written(alloc, back, options, layers, &mut list)?;
+    Ok(list)
 }
 
-/// The entry that a COD stands for: all layers, resolutions and components in its order (A.6.6).
-fn entry_of(segment: &Segment) -> Option<Progression>
-    ensures { option_to_list result ≡ entry_in (Some segment.now) }
+/// The header of a tile's first tile-part: with its own entries where they are kept, and the COM segments of all its headers.
+fn write_header(
+    alloc: Global,
+    tile: &Tile,
+    comps: u16,
+    options: &Options,
+    layers: u16,
+    read: &MainOrder,
+) -> Result<Vec<Segment>, NoMemory>
+    ensures { IfOk result (λ list. list.items ≡ tile_header (with_layers options.now layers) comps read.now tile.now) }
 {
-    match segment {
-        Segment::Cod(cod) => Some(Progression {
-            rs: 0,
-            cs: 0,
-            lye: cod.layers,
-            re: 33,
-            ce: 0,
-            order: cod.order,
-        }),
-        _ => None,
-    }
-}
-
-/// The entry that a header's COD stands for.
-fn cod_entry(segments: &[Segment]) -> Option<Progression>
-    ensures { option_to_list result ≡ entry_in (in_slot cod_slot segments.now) }
-{
-    for segment in segments {
-        if is_cod(segment) {
-            return entry_of(segment);
-        }
-    }
-    None
-}
-
-fn one_entry(alloc: Global, entry: Option<Progression>) -> Result<Entries, NoMemory>
-    ensures { IfOk result (λ entries. entries ≡ option_to_list entry) }
-{
-    let mut entries = Vec::new(alloc);
-    if let Some(entry) = entry {
-        entries.push(entry)?;
-    }
-    let entries = Entries::new(entries)?;
-    Ok(entries)
-}
-
-/// The one entry of a tile with this header, else that of the main header.
-fn tile_entries(alloc: Global, header: &[Segment], default: &Entries) -> Result<Entries, NoMemory>
-    ensures { IfOk result (λ entries. entries ≡ or_list (entry_in (in_slot cod_slot header.now)) default.now) }
-{
-    let entry = cod_entry(header);
-    if entry.is_some() {
-        return one_entry(alloc, entry);
-    }
-    let entries = default.share()?;
-    Ok(entries)
+    let mut own = Vec::new(alloc);
+    push_written(alloc, tile.header.as_slice(), options, layers, &mut own)?;
+    let entries = tile_entries(alloc, comps, &options.poc, read, tile)?;
+    let mut header = with_entries(alloc, own, entries)?;
+    push_copies(tile.notes.as_slice(), &mut header)?;
+    Ok(header)
 }
 
 /// A tile without tile data, its COM segments in one header.
 fn write_tile(
     alloc: Global,
     tile: &Tile,
+    comps: u16,
     options: &Options,
     layers: u16,
-    default: &Entries,
+    read: &MainOrder,
+    written: &MainOrder,
 ) -> Result<Tile, NoMemory>
-    ensures { IfOk result (λ copy. copy ≡ tile_over (with_layers options.now layers) default.now tile.now) }
+    ensures { IfOk result (λ copy. copy ≡ tile_written (with_layers options.now layers) comps read.now written.now tile.now) }
 {
-    let mut header = Vec::new(alloc);
-    push_written(alloc, tile.header.as_slice(), options, layers, &mut header)?;
-    push_copies(tile.notes.as_slice(), &mut header)?;
-    let progressions = tile_entries(alloc, &header, default)?;
+    let header = write_header(alloc, tile, comps, options, layers, read)?;
+    let progressions = written.entries_by(alloc, &header)?;
     Ok(Tile {
         place: 0,
         header: Segments::new(header),
@@ -256,32 +237,36 @@ fn write_tile(
 fn write_tiles(
     alloc: Global,
     tiles: &[Tile],
+    comps: u16,
     options: &Options,
     layers: u16,
-    default: &Entries,
+    read: &MainOrder,
+    written: &MainOrder,
 ) -> Result<Vec<Tile>, NoMemory>
-    ensures { IfOk result (λ copies. copies.items ≡ map (tile_over (with_layers options.now layers) default.now) tiles.now) }
+    ensures { IfOk result (λ copies. copies.items ≡ map (tile_written (with_layers options.now layers) comps read.now written.now) tiles.now) }
 {
     let mut copies = Vec::new(alloc);
     for tile in tiles {
-        let copy = write_tile(alloc, tile, options, layers, default)?;
+        let copy = write_tile(alloc, tile, comps, options, layers, read, written)?;
         copies.push(copy)?;
     }
     Ok(copies)
 }
 
-/// The tiles under a main header that is written.
+/// The tiles of a stream under a main header that is written.
 fn tiles_under(
     alloc: Global,
+    stream: &Stream,
     main: &[Segment],
-    tiles: &[Tile],
+    comps: u16,
     options: &Options,
     layers: u16,
 ) -> Result<Vec<Tile>, NoMemory>
-    ensures { IfOk result (λ copies. copies.items ≡ map (tile_over (with_layers options.now layers) (entry_in (in_slot cod_slot main.now))) tiles.now) }
+    ensures { IfOk result (λ copies. copies.items ≡ map (tile_written (with_layers options.now layers) comps (main_order stream.now.main) (main_order main.now)) stream.now.tiles) }
 {
-    let default = one_entry(alloc, cod_entry(main))?;
-    write_tiles(alloc, tiles, options, layers, &default)
+    let read = MainOrder::new(alloc, stream.main.as_slice())?;
+    let written = MainOrder::new(alloc, main)?;
+    write_tiles(alloc, stream.tiles.as_slice(), comps, options, layers, &read, &written)
 }
 
 /// The profile that is claimed: none, or the input's.
@@ -304,9 +289,10 @@ fn write_siz(siz: &Siz, asked: RsizChoice) -> Result<Siz, NoMemory>
 }
 
 /// The headers of the file that is written as the options ask, with so many layers in each tile, at least 1, as a stream without
-/// tile data: Rsiz is 0 or kept, as asked; POC, PLT, PLM, TLM, PPM, PPT and skipped markers are left out; each COD has SOP, EPH,
-/// order and layers as asked, and each COD and COC the precincts and the style; a tile's first header takes the COM segments of its
-/// later ones; all else is kept. Time and memory follow the bytes of the headers, the precincts that are written and the number of tiles.
+/// tile data: Rsiz is 0 or kept, as asked; PLT, PLM, TLM, PPM, PPT and skipped markers are left out; POC is left out, or stands in the
+/// main header with the volumes that are asked, or is kept, in one segment for each tile; each COD has SOP, EPH, order and layers as asked,
+/// and each COD and COC the precincts and the style; a tile's first header takes the COM segments of its later ones; all else is
+/// kept. Time and memory follow the bytes of the headers, the precincts that are written and the number of tiles.
 ///
 /// # Errors
 ///
@@ -317,12 +303,13 @@ pub(crate) fn write_headers(
     options: &Options,
     layers: u16,
 ) -> Result<Stream, NoMemory>
+    requires { length stream.now.siz.comps < 65536 }
     ensures { IfOk result (λ copy. copy ≡ stream_written (with_layers options.now layers) stream.now) }
 {
     let siz = write_siz(&stream.siz, options.rsiz)?;
-    let mut main = Vec::new(alloc);
-    push_written(alloc, stream.main.as_slice(), options, layers, &mut main)?;
-    let tiles = tiles_under(alloc, &main, stream.tiles.as_slice(), options, layers)?;
+    let comps = stream.siz.comps.as_slice().len() as u16;
+    let main = write_main(alloc, stream.main.as_slice(), comps, options, layers)?;
+    let tiles = tiles_under(alloc, stream, &main, comps, options, layers)?;
     Ok(Stream {
         siz,
         main: Segments::new(main),

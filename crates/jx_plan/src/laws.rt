@@ -1,10 +1,9 @@
 //! Laws over what is planned: the headers that are written, and the plans. The functions do nothing: their contracts carry the laws.
 
-ghost use Rattle.std.specs.Prelude.{◌≡◌, ◌≤◌, ◌<◌, ◌^◌, ◌++◌, ◌⊎◌, ℕ, List, [], None, false, find, length, map, Option};
+ghost use Rattle.std.specs.Prelude.{◌≡◌, ◌≤◌, ◌<◌, ◌^◌, ◌++◌, ◌⊎◌, ℕ, List, [], None, Some, false, find, length, map, Option};
 ghost use Rattle.std.specs.List.{All, filter, list_any};
 ghost use Rattle.jx_base.specs.declared.names.Band.{Band};
 ghost use Rattle.jx_marker.specs.declared.Segment.{Segment};
-ghost use Rattle.jx_codestream.specs.Headers.{cod_slot};
 ghost use Rattle.jx_codestream.specs.declared.headers.HeaderKind.TheVariants.{First, Later};
 ghost use Rattle.jx_tier2_reader.specs.Another.{HaveSameBlocks};
 ghost use Rattle.jx_tier2_reader.specs.BlockOf.{AreBlocksOf};
@@ -21,11 +20,12 @@ ghost use Rattle.jx_codestream.specs.Parts.{parts_of};
 ghost use Rattle.jx_codestream.specs.Read.{IsRead};
 ghost use Rattle.jx_codestream.specs.Shapes.{geometry, layers_of, shapes_of, style_of, tile_at};
 ghost use Rattle.jx_codestream.specs.Spells.{AreSegments};
-ghost use Rattle.jx_codestream.specs.Tiles.{entry_in, in_slot, entries_joined, or_list, tile_from, tiles_of};
+ghost use Rattle.jx_codestream.specs.Tiles.{tile_from, tiles_of};
 ghost use Rattle.jx_plan.specs.Asides.{is_informational, is_left_out, is_plt, IsAside, IsTileWithMore, IsWithMore};
-ghost use Rattle.jx_plan.specs.Headers.{all_written, cod_written, comp_written, params_written, stream_written, style_written, tile_written, HeaderOptions, MayBeInHeaders};
+ghost use Rattle.jx_plan.specs.Changes.{MainOrder, entries_by, main_order};
+ghost use Rattle.jx_plan.specs.Headers.{cod_written, comp_written, main_written, params_written, stream_written, style_written, tile_written, HeaderOptions, MayBeInHeaders};
 ghost use Rattle.jx_plan.specs.ReadBack.{HaveHeaders};
-ghost use Rattle.jx_plan.specs.Standing.{HeadersStand, IsHeaded};
+ghost use Rattle.jx_plan.specs.Standing.{HeadersStand};
 ghost use Rattle.jx_base.specs.declared.pieces.Block.{Block};
 ghost use Rattle.jx_base.specs.Sound.{IsSound};
 ghost use Rattle.jx_plan.specs.Fits.{Fits, first_zero};
@@ -153,9 +153,9 @@ pub fn plans_write_these_blocks()
     crowds_are_told();
 }
 
-/// The one entry of a tile that is written covers each of its packets (T.800, A.6.6 and B.12).
+/// Where no progression changes are written, the one entry of a tile covers each of its packets (T.800, A.6.6 and B.12).
 pub fn written_is_covered()
-    ensures written { (a : HeaderOptions) (s : Stream) (t : ℕ) → MayBeInHeaders a → first_zero a.wanted.precincts s ≡ None → HeadersStand s → StreamInRange s → t < tile_number s.siz
+    ensures written { (a : HeaderOptions) (s : Stream) (t : ℕ) → MayBeInHeaders a → a.wanted.changes ≡ Some [] → first_zero a.wanted.precincts s ≡ None → HeadersStand s → StreamInRange s → t < tile_number s.siz
         → IsWhole (stream_written a s) t }
     ensures more { (s other : Stream) (t : ℕ) → IsWithMore s other → t < length s.tiles → IsWhole s t → IsWhole other t }
 {}
@@ -170,29 +170,27 @@ pub fn totals_stay_with_more()
 /// What is written is read back: where a tile's tile-parts have its headers, they make the tile that is written, but for its place, its
 /// data and the segments that follow in its header; and the stream of such tiles is the one that is written, with these segments more.
 pub fn written_is_read_back()
-    ensures tile { (a : HeaderOptions) (comps : ℕ) (main : List Segment) (t : Tile) (own : List PlacedPart) → IsHeaded comps t → HaveHeaders a comps t own
-        → IsTileWithMore comps (tile_written a main t) (tile_from (all_written a main) own) }
+    ensures tile { (a : HeaderOptions) (comps : ℕ) (main : List Segment) (m : MainOrder) (t : Tile) (own : List PlacedPart) → HaveHeaders a comps m t own
+        → IsTileWithMore comps (tile_written a comps m (main_order (main_written a comps main)) t) (tile_from (main_written a comps main) own) }
     ensures stream { (a : HeaderOptions) (s other : Stream) (parts : List PlacedPart) → HeadersStand s → other.siz ≡ (stream_written a s).siz → other.main ≡ (stream_written a s).main
         → other.tiles ≡ tiles_of other.main parts (tile_number s.siz)
-        → ((t : ℕ) → t < tile_number s.siz → HaveHeaders a (length s.siz.comps) (tile_at s t) (parts_of t parts)) → IsWithMore (stream_written a s) other }
+        → ((t : ℕ) → t < tile_number s.siz → HaveHeaders a (length s.siz.comps) (main_order s.main) (tile_at s t) (parts_of t parts)) → IsWithMore (stream_written a s) other }
 {}
 
-/// No POC, TLM, PLM, PLT, PPM, PPT or skipped marker is written, and the main header has its CRG and COM segments in their order (T.800, A.7
+/// No TLM, PLM, PLT, PPM, PPT or skipped marker is written, and the main header has its CRG and COM segments in their order (T.800, A.7
 /// and A.9);
-/// the packets of a tile stand in the order of its COD, which has the marks, the order, the layers, the
+/// the packets of a tile stand in the order that the written headers say, as a reader takes them, and its COD has the marks, the order, the layers, the
 /// precincts and the style that are asked (T.800, A.6.1 and A.6.6); and where its precincts fit, the limits 5 and 6 are those on its
 /// packets alone.
 pub fn written_headers_are_plain()
-    ensures main { (a : HeaderOptions) (s : Stream) → HeadersStand s → entries_joined (stream_written a s).main ≡ [] }
     ensures header { (a : HeaderOptions) (s : Stream) (t : ℕ) → HeadersStand s → MayBeInHeaders a → first_zero a.wanted.precincts s ≡ None → t < length s.tiles
         → AreSegments First (length s.siz.comps) [] (header_of (stream_written a s) t) }
-    ensures entries { (a : HeaderOptions) (s : Stream) (t : ℕ) → HeadersStand s → t < length s.tiles → entries_joined (header_of (stream_written a s) t) ≡ [] }
     ensures lengths { (a : HeaderOptions) (s : Stream) (t : ℕ) → HeadersStand s → t < length s.tiles → list_any is_plt (header_of (stream_written a s) t) ≡ false }
     ensures left_main { (a : HeaderOptions) (s : Stream) → HeadersStand s → list_any is_left_out (stream_written a s).main ≡ false }
     ensures left_header { (a : HeaderOptions) (s : Stream) (t : ℕ) → HeadersStand s → t < length s.tiles → list_any is_left_out (header_of (stream_written a s) t) ≡ false }
     ensures informs { (a : HeaderOptions) (s : Stream) → HeadersStand s → filter is_informational (stream_written a s).main ≡ filter is_informational s.main }
     ensures order { (a : HeaderOptions) (s : Stream) (t : ℕ) → HeadersStand s → t < length s.tiles → (tile_at (stream_written a s) t).progressions
-        ≡ or_list (entry_in (in_slot cod_slot (header_of (stream_written a s) t))) (entry_in (in_slot cod_slot (stream_written a s).main)) }
+        ≡ entries_by (main_order (stream_written a s).main) (header_of (stream_written a s) t) }
     ensures cods { (a : HeaderOptions) (s : Stream) (t : ℕ) → HeadersStand s
         → cod_or (cod_of (header_of (stream_written a s) t) (stream_written a s).main) ≡ cod_written a (cod_or (cod_of (header_of s t) s.main)) }
     ensures limits { (a : HeaderOptions) (s : Stream) → Fits a.wanted.precincts s → HeadersStand s → totals_fault s ≡ None → packet_total (stream_written a s) ≤ 2 ^ 22

@@ -4,6 +4,7 @@
 
 mod asking;
 mod causal;
+mod changes;
 mod counting;
 mod crowded;
 mod facts;
@@ -14,10 +15,12 @@ pub mod laws;
 pub mod layer_laws;
 mod lending;
 mod out_stream;
+mod own_entries;
 mod parting;
 mod planning;
 mod profile;
 mod sending;
+mod strays;
 
 pub use asking::ask_jobs;
 pub use causal::{first_broken, style_for};
@@ -28,4 +31,4 @@ pub use fitting::{check_precincts, first_misfit};
 pub use lending::shortened;
 pub use out_stream::OutStream;
 pub use planning::plan_served;
-pub use profile::first_unmet;
+pub use profile::{Cinema, first_unmet};

@@ -25,6 +25,7 @@ use crate::crowded::first_crowded;
 use crate::facts::facts_of;
 use crate::fitting::check_precincts;
 use crate::layer_laws::crowds_are_told;
+use crate::strays::check_changes;
 use crate::{OutStream, PlanFault};
 use jx_base::{Block, Style};
 use jx_codeblock::Job;
@@ -96,6 +97,9 @@ fn plan_jobs<'a>(
         Ok(written) => written,
         Err(fault) => return Err(fault),
     };
+    if let Err(fault) = check_changes(alloc, stream, options, layers, &written) {
+        return Err(fault);
+    }
     if let Some(place) = first_crowded(&jobs) {
         return Err(PlanFault::Choice { number: 4, place });
     }
@@ -196,12 +200,14 @@ fn first_serving(planners: &[Box<dyn LayerPlanner>], words: &str) -> Option<usiz
 /// Choice 1 exactly where a style is asked with another causal bit than that of a code-block whose passes end within a plane (ITU-T
 /// T.800, D.7), at the lowest such block. Else choices 3 and 2 exactly as `check_precincts` says. Else choice 6 at 0 exactly where
 /// no planner serves the words, or the first that does makes no rule of them; after these nothing was asked. Else limit 7 exactly
-/// where over 2^22 packets would be written, one for each precinct and layer (B.9), with their number. Else choice 4 exactly where
+/// where over 2^22 packets would be written, one for each precinct and layer (B.9), with their number. Else choice 12 exactly where a volume
+/// that is asked begins above the components, at 0, or some packet of a tile would be in no volume, or a tile's own entries that are
+/// kept pass what a POC segment holds (A.6.6), at the lowest such tile. Else choice 4 exactly where
 /// some layer would have over 164 passes of a code-block (B.10.6, Table B.4), at the lowest such block. Else choice 5 exactly where
 /// a tile would have over 255 tile-parts (A.4.2), at the lowest such tile. Else choice 10 at 0 exactly where TLM is asked and there would
 /// be over 2,795,776 tile-parts (A.7.1). Else choice 11 exactly where the input's profile is kept and the file wouldn't have all of it
-/// (A.5.1), at the number of the first condition of profile 3 that fails (`first_unmet`), or at 0 where the profile is another than 0 and
-/// 3. `NoMemory` where memory is refused.
+/// (A.5.1), at the number of the first condition of profile 3 or 4 that fails (`first_unmet`), or at 0 where the profile is another than 0,
+/// 3 and 4. `NoMemory` where memory is refused.
 pub fn plan_served<'a>(
     alloc: Global,
     stream: &'a Stream,

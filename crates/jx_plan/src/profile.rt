@@ -3,15 +3,25 @@
 ghost use Rattle.std.specs.Prelude.{◌≡◌, ◌≤◌, ◌+◌, ◌==◌, ◌&&◌, length, IfErr, None, OnOk};
 ghost use Rattle.std.specs.List.{list_all, list_any};
 ghost use Rattle.jx_codestream.specs.InRange.{StreamInRange};
-ghost use Rattle.jx_plan.specs.Profile.{all_meet, are_full, are_squares, by_component, cod_meets, first_failed, first_unmet, guard_meets, has_no_offset, is_full, is_parameter, is_small, lacks_changes, lacks_region, meets, shape_meets, unclaimed};
+ghost use Rattle.jx_plan.specs.Profile.{all_meet, are_full, are_squares, by_component, are_volumes, changes_meet, cod_meets, first_failed, first_unmet, guard_bits, guard_meets, has_levels, has_no_offset, is_full, is_ordered, is_parameter, is_small, is_volume, lacks_region, main_levels, meets, shape_meets, unclaimed};
 ghost use Rattle.jx_plan.specs.Steps.{IsUnmet};
 
 use crate::PlanFault;
+use crate::own_entries::has_poc;
 use jx_codestream::Stream;
-use jx_marker::{Cod, CompSize, Segment, Shape, Siz};
+use jx_marker::{Cod, CompSize, Progression, Segment, Shape, Siz};
 use jx_options::{Marks, PartChoice};
 
-/// What profile 3 asks of the segments of headers.
+/// The profiles of digital cinema.
+#[derive(Clone, Copy, Debug, PartialEq, Eq)]
+pub enum Cinema {
+    /// 3, of pictures of at most 2,048 by 1,080.
+    TwoK,
+    /// 4, of pictures of at most 4,096 by 2,160.
+    FourK,
+}
+
+/// What these profiles ask of the segments of headers.
 #[derive(Clone, Copy, Debug, PartialEq, Eq)]
 pub(crate) enum Demand {
     /// No region of interest.
@@ -24,20 +34,25 @@ pub(crate) enum Demand {
     Precincts,
     /// The order CPRL, without changes.
     Order,
+    /// Changes of two volumes, of the resolutions below these levels and of the one above.
+    Volumes(u8),
     /// One layer.
     Layers,
-    /// At most five levels.
-    Levels,
+    /// So many levels.
+    Levels(u8),
     /// The 9-7 wavelet.
     Wavelet,
-    /// One guard bit.
-    Guard,
+    /// So many guard bits.
+    Guard(u8),
 }
 
-fn is_small(siz: &Siz) -> bool
-    ensures { result ≡ is_small siz.now }
+fn is_small(siz: &Siz, cinema: Cinema) -> bool
+    ensures { result ≡ is_small cinema siz.now }
 {
-    siz.x1 <= 2_048 && siz.y1 <= 1_080
+    match cinema {
+        Cinema::TwoK => siz.x1 <= 2_048 && siz.y1 <= 1_080,
+        Cinema::FourK => siz.x1 <= 4_096 && siz.y1 <= 2_160,
+    }
 }
 
 fn has_no_offset(siz: &Siz) -> bool
@@ -87,7 +102,7 @@ fn shape_meets(shape: &Shape, demand: Demand) -> bool
         Demand::Blocks => shape.xcb == 5 && shape.ycb == 5,
         Demand::Style => shape.style == 0,
         Demand::Precincts => are_squares(shape.precincts.as_slice()),
-        Demand::Levels => shape.levels <= 5,
+        Demand::Levels(levels) => shape.levels == levels,
         Demand::Wavelet => shape.wavelet == 0,
         _ => true,
     }
@@ -107,7 +122,7 @@ fn guard_meets(sqcd: u8, demand: Demand) -> bool
     ensures { result ≡ guard_meets demand sqcd }
 {
     match demand {
-        Demand::Guard => sqcd / 32 == 1,
+        Demand::Guard(bits) => sqcd / 32 == bits,
         _ => true,
     }
 }
@@ -118,10 +133,37 @@ fn lacks_region(demand: Demand) -> bool
     !matches!(demand, Demand::Region)
 }
 
-fn lacks_changes(demand: Demand) -> bool
-    ensures { result ≡ lacks_changes demand }
+/// A volume of these resolutions, of one layer and three components, in the order CPRL.
+fn is_volume(entry: Progression, rs: u16, re: u16) -> bool
+    ensures { result ≡ is_volume rs re entry }
 {
-    !matches!(demand, Demand::Order)
+    u16::from(entry.rs) == rs
+        && u16::from(entry.re) == re
+        && entry.cs == 0
+        && entry.lye == 1
+        && entry.ce == 3
+        && entry.order == 4
+}
+
+/// Two volumes: of the resolutions below so many levels, and of the one above.
+fn are_volumes(entries: &[Progression], levels: u8) -> bool
+    ensures { result ≡ are_volumes levels entries.now }
+{
+    let levels = u16::from(levels);
+    match entries {
+        [low, high] => is_volume(*low, 0, levels) && is_volume(*high, levels, levels + 1),
+        _ => false,
+    }
+}
+
+fn changes_meet(entries: &[Progression], demand: Demand) -> bool
+    ensures { result ≡ changes_meet demand entries.now }
+{
+    match demand {
+        Demand::Order => false,
+        Demand::Volumes(levels) => are_volumes(entries, levels),
+        _ => true,
+    }
 }
 
 fn meets(segment: &Segment, demand: Demand) -> bool
@@ -133,7 +175,7 @@ fn meets(segment: &Segment, demand: Demand) -> bool
         Segment::Qcd(quant) => guard_meets(quant.sqcd, demand),
         Segment::Qcc { comp: _, quant } => guard_meets(quant.sqcd, demand),
         Segment::Rgn { .. } => lacks_region(demand),
-        Segment::Poc(_) => lacks_changes(demand),
+        Segment::Poc(entries) => changes_meet(entries.as_slice(), demand),
         _ => true,
     }
 }
@@ -189,18 +231,65 @@ fn first_failed(number: u32, met: &[bool]) -> Option<u32>
     }
 }
 
-/// The first condition of profile 3, that of 2K digital cinema, that written headers with these marks don't meet, 1 to 16; none where they
-/// meet all. They are, in their order: Xsiz at most 2,048 and Ysiz 1,080; no offsets; one tile; three components without
-/// subsampling, of 12 bits without a sign; no RGN; COD, COC, QCD and QCC in the main header alone; code-blocks of 32 by 32; their style 0;
-/// precincts of 128 by 128 at the lowest resolution and 256 by 256 above; the order CPRL; one layer; at most five levels; the 9-7
-/// wavelet; one guard bit; a tile-part for each component; TLM.
-#[tactic(auto, unfolding(crate::specs::Profile::conditions))]
-pub fn first_unmet(written: &Stream, marks: Marks) -> Option<u32>
-    requires { StreamInRange written.now }
-    ensures { result ≡ first_unmet marks written.now }
+/// The levels of a main header's COD.
+fn main_levels(stream: &Stream) -> u8
+    ensures { result ≡ main_levels stream.now }
 {
+    for segment in stream.main.as_slice() {
+        if let Segment::Cod(cod) = segment {
+            return cod.shape.levels;
+        }
+    }
+    0
+}
+
+/// The order of packets is that of a profile, in a picture of so many levels.
+fn is_ordered(stream: &Stream, cinema: Cinema, levels: u8) -> bool
+    requires { levels ≡ main_levels stream.now }
+    ensures { result ≡ is_ordered cinema stream.now }
+{
+    match cinema {
+        Cinema::TwoK => all_meet(stream, Demand::Order),
+        Cinema::FourK => {
+            has_poc(stream.main.as_slice())
+                && !has_poc(stream.header(0))
+                && all_meet(stream, Demand::Volumes(levels))
+        }
+    }
+}
+
+fn has_levels(cinema: Cinema, levels: u8) -> bool
+    ensures { result ≡ has_levels cinema levels }
+{
+    match cinema {
+        Cinema::TwoK => levels <= 5,
+        Cinema::FourK => 1 <= levels && levels <= 6,
+    }
+}
+
+fn guard_bits(cinema: Cinema) -> u8
+    ensures { result ≡ guard_bits cinema }
+{
+    match cinema {
+        Cinema::TwoK => 1,
+        Cinema::FourK => 2,
+    }
+}
+
+/// The first condition of a profile of digital cinema that written headers with these marks don't meet, 1 to 16; none where they meet
+/// all. They are, in their order: Xsiz and Ysiz; no offsets; one tile; three components without subsampling, of 12 bits without a sign;
+/// no RGN; COD, COC, QCD and QCC in the main header alone; code-blocks of 32 by 32; their style 0; precincts of 128 by 128 at the lowest
+/// resolution and 256 by 256 above; the order CPRL without POC, or for 4K a POC of two volumes in the main header alone; one layer; at
+/// most five levels, for 4K one to six, the same for each component; the 9-7 wavelet; one guard bit, for 4K two; a tile-part for each
+/// component; TLM.
+#[tactic(auto, unfolding(crate::specs::Profile::conditions))]
+pub fn first_unmet(written: &Stream, marks: Marks, cinema: Cinema) -> Option<u32>
+    requires { StreamInRange written.now }
+    ensures { result ≡ first_unmet cinema marks written.now }
+{
+    let levels = main_levels(written);
     let met = [
-        is_small(&written.siz),
+        is_small(&written.siz, cinema),
         has_no_offset(&written.siz),
         written.tile_count() == 1,
         are_full(written.siz.comps.as_slice()),
@@ -209,11 +298,11 @@ pub fn first_unmet(written: &Stream, marks: Marks) -> Option<u32>
         all_meet(written, Demand::Blocks),
         all_meet(written, Demand::Style),
         all_meet(written, Demand::Precincts),
-        all_meet(written, Demand::Order),
+        is_ordered(written, cinema, levels),
         all_meet(written, Demand::Layers),
-        all_meet(written, Demand::Levels),
+        has_levels(cinema, levels) && all_meet(written, Demand::Levels(levels)),
         all_meet(written, Demand::Wavelet),
-        all_meet(written, Demand::Guard),
+        all_meet(written, Demand::Guard(guard_bits(cinema))),
         by_component(marks.parts),
         marks.tlm,
     ];
@@ -228,7 +317,8 @@ fn unclaimed(written: &Stream, marks: Marks) -> Option<u32>
 {
     match written.siz.rsiz {
         0 => None,
-        3 => first_unmet(written, marks),
+        3 => first_unmet(written, marks, Cinema::TwoK),
+        4 => first_unmet(written, marks, Cinema::FourK),
         _ => Some(0),
     }
 }
@@ -237,7 +327,7 @@ fn unclaimed(written: &Stream, marks: Marks) -> Option<u32>
 ///
 /// # Errors
 ///
-/// Choice 11 exactly where they don't, at the number of the first condition of profile 3 that fails, or at 0 where the conditions of
+/// Choice 11 exactly where they don't, at the number of the first condition of profile 3 or 4 that fails, or at 0 where the conditions of
 /// what is claimed aren't known.
 pub(crate) fn check_profile(written: &Stream, marks: Marks) -> Result<(), PlanFault>
     requires { StreamInRange written.now }

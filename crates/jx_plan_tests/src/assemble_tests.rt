@@ -14,7 +14,7 @@ use jx_base::{Block, NoMemory};
 use jx_codeblock::Recoded;
 use jx_codestream::{MainView, Stream};
 use jx_layers::LayerPlanner;
-use jx_options::{Marks, Options, OrderChoice, PartChoice, PrecinctChoice, RsizChoice};
+use jx_options::{Marks, Options, OrderChoice, PocChoice, PartChoice, PrecinctChoice, RsizChoice};
 use jx_plan::{OutStream, plan_served};
 use jx_store::Entry;
 use jx_tier2_writer::{AssembleFault, TileOut, main_header, main_view, pack_tile, whole_parts};
@@ -245,6 +245,7 @@ fn with_marks(alloc: Global, asked: Asked) -> Result<Options, AllocError>
     marks.parts = parts;
     Ok(Options {
         order: OrderChoice::Keep,
+        poc: PocChoice::None,
         precincts: PrecinctChoice::Keep,
         style: None,
         layers,

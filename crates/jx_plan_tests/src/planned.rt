@@ -14,7 +14,7 @@ use jx_base::{Block, MOST_BYTES, NoMemory, Style};
 use jx_codeblock::Job;
 use jx_codestream::{Stream, Tile, read_stream};
 use jx_layers::{CutLayers, KeepLayers, LayerPlanner, OneLayer};
-use jx_options::{Marks, Options, OrderChoice, PrecinctChoice, RsizChoice};
+use jx_options::{Marks, Options, OrderChoice, PocChoice, PrecinctChoice, RsizChoice};
 use jx_plan::{OutStream, PlanFault, first_misfit, plan_served};
 use jx_tier2_reader::gather;
 use std::alloc::{AllocError, Global};
@@ -103,6 +103,7 @@ fn options_of(alloc: Global, ask: &Ask) -> Result<Options, AllocError>
     let layers = String::from_str(alloc, ask.words)?;
     Ok(Options {
         order: order_of(ask.cprl),
+        poc: PocChoice::None,
         precincts,
         style: style_of(ask.style),
         layers,

@@ -6,7 +6,7 @@ use jx_base::MOST_BYTES;
 use jx_codestream::laws::read_is_in_range;
 use jx_codestream::read_stream;
 use jx_options::{Marks, PartChoice};
-use jx_plan::first_unmet;
+use jx_plan::{Cinema, first_unmet};
 use std::alloc::Global;
 use std::test::Fail;
 
@@ -37,7 +37,7 @@ fn unmet(alloc: Global, change: (usize, u8), parts: PartChoice, tlm: bool) -> Op
     marks.parts = parts;
     marks.tlm = tlm;
     match read_stream(alloc, &bytes) {
-        Ok(stream) => first_unmet(&stream, marks),
+        Ok(stream) => first_unmet(&stream, marks, Cinema::TwoK),
         Err(_) => Some(99),
     }
 }

@@ -157,7 +157,7 @@ segments_stand kind d comps before (s ∷ ss) are =
     (segment_stands kind d comps before s are.0, subst (λ (xs : List Segment). AreSegments kind comps xs (map (segment_left d) ss)) (map-append (segment_left d) before (s ∷ [])) next)
 
 tile_stands : (d comps : ℕ) (t : Tile) → IsHeaded comps t → IsHeaded comps (tile_left d t)
-tile_stands d comps t h = record { header = segments_stand First d comps [] t.header h.header; notes = h.notes }
+tile_stands d comps t h = record { header = segments_stand First d comps [] t.header h.header; notes = h.notes; progressions = h.progressions }
 
 both_there : (d : ℕ) (main : List Segment) → lacks_default main ≡ false → lacks_default (map (segment_left d) main) ≡ false
 both_there d main h =

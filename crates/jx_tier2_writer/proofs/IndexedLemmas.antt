@@ -8,7 +8,7 @@ use Rattle.jx_marker.specs.declared.Cod.{Cod}
 use Rattle.jx_marker.specs.declared.Progression.{Progression}
 use Rattle.jx_marker.specs.declared.Segment.{Segment}
 use Rattle.jx_progression.specs.declared.names.PacketName.{PacketName}
-use Rattle.jx_progression.specs.Packets.{IsOrder}
+use Rattle.jx_progression.specs.Packets.{AreCovered, IsOrder}
 use Rattle.jx_codestream.specs.declared.headers.HeaderKind.TheVariants.{Main}
 use Rattle.jx_codestream.specs.declared.Stream.{Stream}
 use Rattle.jx_codestream.specs.declared.Tile.{Tile}
@@ -17,7 +17,8 @@ use Rattle.jx_codestream.specs.Headers.{has_packed}
 use Rattle.jx_codestream.specs.Params.{cod_or, header_of, limit_4_of}
 use Rattle.jx_codestream.specs.Shapes.{geometry, layers_of, tile_at}
 use Rattle.jx_codestream.specs.Spells.{AreSegments, TilePart}
-use Rattle.jx_codestream.specs.Tiles.{entries_joined, entry_in, in_slot, or_list}
+use Rattle.jx_codestream.specs.Tiles.{entries_joined, entry_in, in_slot}
+use Rattle.jx_plan.specs.Changes.{MainOrder, entries_by, main_order}
 use Rattle.jx_tile.specs.Covered.{IsListOf}
 use Rattle.jx_tier2_reader.specs.Written.{Packets, packets_in}
 use Rattle.jx_options.specs.declared.Marks.{Marks}
@@ -39,6 +40,17 @@ list_same g h layers other entries later names eg el ee is =
     let Q : ℕ → Type 0 = λ z. IsOrder g z later (length later) names in
     let R : List Progression → Type 0 = λ z. IsOrder g layers z (length z) names in
     subst P (sym eg) (subst Q (sym el) (subst R (sym ee) is))
+
+-- and covers
+pub cover_same : (g h : Geometry) (layers other : ℕ) (entries later : List Progression) → h ≡ g → other ≡ layers → later ≡ entries → AreCovered g layers entries → AreCovered h other later
+cover_same g h layers other entries later eg el ee is =
+    let P : Geometry → Type 0 = λ z. AreCovered z other later in
+    let Q : ℕ → Type 0 = λ z. AreCovered g z later in
+    let R : List Progression → Type 0 = λ z. AreCovered g layers z in
+    subst P (sym eg) (subst Q (sym el) (subst R (sym ee) is))
+
+same_order : (es fs ds gs : List Progression) → es ≡ fs → ds ≡ gs → ◌≡◌ {A = MainOrder} (record { joined = es; default = ds }) (record { joined = fs; default = gs })
+same_order es fs ds gs e h = rw (e, h) refl
 
 module _ (m : Marks) (s : Stream) (parts : List TilePart) where
   abbrev pub it : Stream
@@ -85,15 +97,20 @@ module _ (m : Marks) (s : Stream) (parts : List TilePart) where
   }
 
   -- ---- headers that a file may be written from
+  order_is : main_order main ≡ main_order s.main
+  order_is =
+      same_order (entries_joined main) (entries_joined s.main) (entry_in (in_slot 1 main)) (entry_in (in_slot 1 s.main))
+      (ap (λ (z : List Segment). entries_joined z) main_is ∙ tlm_entries s.main held) (ap entry_in (main_alike 1 (omega arith)))
+
   tile_ready : (t : ℕ) → IsTileReady m s t → IsTileReady m it t
   tile_ready t is =
       let cod : cod_at it t ≡ cod_at s t = ap cod_or (cod_main main s.main main_alike (header_of s t)) in
       record {
         header = is.header;
-        entries = is.entries;
         lengths = is.lengths;
         in_place = is.in_place;
-        progressions = is.progressions ∙ sym (ap (λ (z : Option Segment). or_list (entry_in (in_slot 1 (header_of s t))) (entry_in z)) (main_alike 1 (omega arith)));
+        progressions = is.progressions ∙ ap (λ (o : MainOrder). entries_by o (header_of s t)) (sym order_is);
+        whole = cover_same (geometry s t) (geometry it t) (layers_of s t) (layers_of it t) (tile_at s t).progressions (tile_at s t).progressions (geometry_is t) (layers_are t) refl is.whole;
         sop = ap (λ (c : Cod). c.sop) cod ∙ is.sop;
         eph = ap (λ (c : Cod). c.eph) cod ∙ is.eph;
         few = λ names list. is.few names (list_from t names list);
@@ -111,7 +128,6 @@ module _ (m : Marks) (s : Stream) (parts : List TilePart) where
       record {
         siz = is.siz;
         main = subst P (sym main_is) (segments_on Main (length s.siz.comps) [] s.main (tlms held) is.main (index_stands m (length s.siz.comps) s.main parts few));
-        entries = ap (λ (z : List Segment). entries_joined z) main_is ∙ tlm_entries s.main held ∙ is.entries;
         in_place = ap has_packed main_is ∙ tlm_packed s.main held ∙ is.in_place;
         defaults = ap (λ (z : List Segment). lacks_default z) main_is ∙ tlm_defaults s.main held ∙ is.defaults;
         few_tiles = is.few_tiles;

@@ -21,8 +21,7 @@ use Rattle.jx_codestream.specs.First.{tile_number}
 use Rattle.jx_codestream.specs.Params.{cod_of, cod_or, header_of, params_of, planes_at, step_of}
 use Rattle.jx_codestream.specs.Shapes.{geometry, shapes_of, tile_at}
 use Rattle.jx_codestream.specs.Spells.{AreSegments, TilePart}
-use Rattle.jx_codestream.specs.Tiles.{entry_in, in_slot, or_list}
-use Rattle.jx_codestream.specs.Tiles.{entries_joined}
+use Rattle.jx_plan.specs.Changes.{entries_by, main_order}
 use Rattle.jx_tier2_reader.specs.BlockOf.{AreBlocksOf}
 use Rattle.jx_tile.specs.Totals.{packet_total, totals_fault}
 use Rattle.jx_codeblock.specs.declared.LayerEnd.{LayerEnd}
@@ -59,16 +58,14 @@ use Rattle.jx_plan.proofs.PlanLemmas.{style_few}
 pub record HeaderLaws : Type 0 where
   pub stand : (a : HeaderOptions) (s : Stream) → MayBeInHeaders a → first_zero a.wanted.precincts s ≡ None → HeadersStand s → HeadersStand (stream_written a s)
   pub tiles : (a : HeaderOptions) (s : Stream) → tile_number (stream_written a s).siz ≡ tile_number s.siz
-  pub main : (a : HeaderOptions) (s : Stream) → HeadersStand s → entries_joined (stream_written a s).main ≡ []
   pub header : (a : HeaderOptions) (s : Stream) (t : ℕ) → HeadersStand s → MayBeInHeaders a → first_zero a.wanted.precincts s ≡ None → t < length s.tiles
       → AreSegments First (length s.siz.comps) [] (header_of (stream_written a s) t)
-  pub entries : (a : HeaderOptions) (s : Stream) (t : ℕ) → HeadersStand s → t < length s.tiles → entries_joined (header_of (stream_written a s) t) ≡ []
   pub lengths : (a : HeaderOptions) (s : Stream) (t : ℕ) → HeadersStand s → t < length s.tiles → list_any is_plt (header_of (stream_written a s) t) ≡ false
   pub left_main : (a : HeaderOptions) (s : Stream) → HeadersStand s → list_any is_left_out (stream_written a s).main ≡ false
   pub left_header : (a : HeaderOptions) (s : Stream) (t : ℕ) → HeadersStand s → t < length s.tiles → list_any is_left_out (header_of (stream_written a s) t) ≡ false
   pub informs : (a : HeaderOptions) (s : Stream) → HeadersStand s → filter is_informational (stream_written a s).main ≡ filter is_informational s.main
   pub order : (a : HeaderOptions) (s : Stream) (t : ℕ) → HeadersStand s → t < length s.tiles → (tile_at (stream_written a s) t).progressions
-      ≡ or_list (entry_in (in_slot 1 (header_of (stream_written a s) t))) (entry_in (in_slot 1 (stream_written a s).main))
+      ≡ entries_by (main_order (stream_written a s).main) (header_of (stream_written a s) t)
   pub cods : (a : HeaderOptions) (s : Stream) (t : ℕ) → HeadersStand s
       → cod_or (cod_of (header_of (stream_written a s) t) (stream_written a s).main) ≡ cod_written a (cod_or (cod_of (header_of s t) s.main))
   pub limits : (a : HeaderOptions) (s : Stream) → Fits a.wanted.precincts s → HeadersStand s → totals_fault s ≡ None → packet_total (stream_written a s) ≤ 2 ^ 22
@@ -140,7 +137,7 @@ module _ (laws : HeaderLaws) (w : Wanted) (layers : ℕ) (s : Stream) (some : 1 
   it = headers_with w layers s
 
   may_be : MayBeInHeaders a
-  may_be = record { some = some; few = few; order = may.order; bytes = may.bytes; style = style_few w.style may.style }
+  may_be = record { some = some; few = few; order = may.order; changes = may.changes; bytes = may.bytes; style = style_few w.style may.style }
 
   above : first_zero a.wanted.precincts s ≡ None
   above = free.fits.above
@@ -154,10 +151,10 @@ module _ (laws : HeaderLaws) (w : Wanted) (layers : ℕ) (s : Stream) (some : 1 
       let P : ℕ → Type 0 = λ n. AreSegments First n [] (header_of it t) in
       record {
         header = subst P (sym (comps_written a s)) (laws.header a s t stand may_be above lt);
-        entries = laws.entries a s t stand lt;
         lengths = laws.lengths a s t stand lt;
         in_place = unpacked (header_of it t) (laws.left_header a s t stand lt);
         progressions = laws.order a s t stand lt;
+        whole = (free.placed.each t (omega (arith, inside, tiles_are))).whole;
         sop = ap (λ (c : Cod). c.sop) (laws.cods a s t stand);
         eph = ap (λ (c : Cod). c.eph) (laws.cods a s t stand);
         few = free.parts t (omega (arith, inside, tiles_are));
@@ -169,7 +166,6 @@ module _ (laws : HeaderLaws) (w : Wanted) (layers : ℕ) (s : Stream) (some : 1 
       record {
         siz = written.siz;
         main = written.main;
-        entries = laws.main a s stand;
         in_place = unpacked it.main (laws.left_main a s stand);
         defaults = written.defaults;
         few_tiles = written.few;
@@ -260,6 +256,7 @@ module _ (laws : HeaderLaws) (keep : KeepLaws) (told : LayerLaws) (w : Wanted) (
     gathered = output_gathered marks written anew out is ready all_short named sound;
     formed = output_formed marks written anew out is ready all_short named sound;
     strict = strict.0;
+    orders = λ t lt. headers.entries t (omega (arith, lt, laws.tiles b before));
     left_main = ap (λ (z : List Segment). list_any is_left_out z) strict.1 ∙ laws.left_main b before stand;
     left_header = left_header;
     informs = ap (λ (z : List Segment). filter is_informational z) headers.main ∙ informs ∙ laws.informs b before stand;

@@ -8,7 +8,6 @@ mod PlaceLemmas
 pub mod MadeLemmas
 mod SameLemmas
 mod IndexLemmas
-mod CoverLemmas
 mod ReadyLemmas
 mod ReadLemmas
 mod IndexedLemmas

@@ -26,7 +26,7 @@ use Rattle.jx_options.specs.declared.Marks.{Marks}
 use Rattle.jx_tier2_writer.specs.TileParts.{packet_length, written_part_header, parts_with, tile_part}
 use Rattle.jx_tier2_writer.proofs.HeaderLemmas.{lengths_none, lengths_stand, segments_on}
 use Rattle.jx_tier2_writer.proofs.InPlaceLemmas.{lengths_unpacked, none_packed}
-use Rattle.jx_plan.proofs.ReadBackLemmas.{none_both as joined_on}
+use Rattle.jx_plan.proofs.ReadBackLemmas.{joined_with}
 use Rattle.jx_tier2_writer.proofs.HeldLemmas.{held_by, held_few, held_fit, packets_long, segments_are}
 use Rattle.jx_tier2_writer.proofs.FewLemmas.{AreFew}
 use Rattle.jx_tier2_writer.proofs.TurnLemmas.{AreOf}
@@ -96,23 +96,29 @@ module _ (m : Marks) (comps t : ℕ) (own : List Segment) (ps : Packets) (parts 
   made_long part number [] = refl
   made_long part number (names ∷ groups) = ap suc (made_long (part + 1) (number + length names) groups)
 
-  -- ---- no POC
-  header_entries : (part : ℕ) (lengths : List ℕ) → entries_joined own ≡ [] → entries_joined (written_part_header m own part lengths) ≡ []
-  header_entries part lengths none =
-      let P : List Segment → Type 0 = λ z. entries_joined z ≡ [] in
-      subst P (sym (header_is m own part lengths)) (joined_on (own_at part own) (numbered 0 (held_by m.plt lengths)) (at part) (lengths_none 0 (held_by m.plt lengths)))
-    where
-      at : (k : ℕ) → entries_joined (own_at k own) ≡ []
-      at zero = none
-      at (suc k) = refl
+  -- ---- the entries are those of the first header
+  header_entries : (part : ℕ) (lengths : List ℕ) → entries_joined (written_part_header m own part lengths) ≡ entries_joined (own_at part own)
+  header_entries part lengths =
+      ap entries_joined (header_is m own part lengths) ∙ joined_with (own_at part own) (numbered 0 (held_by m.plt lengths)) (lengths_none 0 (held_by m.plt lengths))
 
-  pub made_entries : (part number at : ℕ) (groups : List (List PacketName)) → entries_joined own ≡ [] → entries_joined (headers_of (placed comps at (parts_with m comps t own ps part parts number groups))) ≡ []
-  made_entries part number at [] none = refl
-  made_entries part number at (names ∷ groups) none =
+  later_entries : (part number at : ℕ) (groups : List (List PacketName)) → 0 < part → entries_joined (headers_of (placed comps at (parts_with m comps t own ps part parts number groups))) ≡ []
+  later_entries part number at [] some = refl
+  later_entries zero number at (names ∷ groups) some = absurd (omega arith)
+  later_entries (suc part) number at (names ∷ groups) some =
       let lengths : List ℕ = map (packet_length ps) names in
-      let p : TilePart = tile_part comps t part parts (written_part_header m own part lengths) (bytes_from ps number names) in
-      joined_on (written_part_header m own part lengths) (headers_of (placed comps (at + length (part_bytes comps p)) (parts_with m comps t own ps (part + 1) parts (number + length names) groups)))
-      (header_entries part lengths none) (made_entries (part + 1) (number + length names) (at + length (part_bytes comps p)) groups none)
+      let p : TilePart = tile_part comps t (suc part) parts (written_part_header m own (suc part) lengths) (bytes_from ps number names) in
+      joined_with (written_part_header m own (suc part) lengths) (headers_of (placed comps (at + length (part_bytes comps p)) (parts_with m comps t own ps (suc part + 1) parts (number + length names) groups)))
+      (later_entries (suc part + 1) (number + length names) (at + length (part_bytes comps p)) groups (omega arith))
+      ∙ header_entries (suc part) lengths
+
+  pub made_entries : (number at : ℕ) (groups : List (List PacketName)) → 0 < length groups → entries_joined (headers_of (placed comps at (parts_with m comps t own ps 0 parts number groups))) ≡ entries_joined own
+  made_entries number at [] some = absurd (omega (arith, some))
+  made_entries number at (names ∷ groups) some =
+      let lengths : List ℕ = map (packet_length ps) names in
+      let p : TilePart = tile_part comps t 0 parts (written_part_header m own 0 lengths) (bytes_from ps number names) in
+      joined_with (written_part_header m own 0 lengths) (headers_of (placed comps (at + length (part_bytes comps p)) (parts_with m comps t own ps 1 parts (number + length names) groups)))
+      (later_entries 1 (number + length names) (at + length (part_bytes comps p)) groups (omega arith))
+      ∙ header_entries 0 lengths
 
   -- ---- no COM in later tile-parts
   later_header : (part : ℕ) (lengths : List ℕ) → 0 < part → written_part_header m own part lengths ≡ numbered 0 (held_by m.plt lengths)

@@ -38,7 +38,7 @@ use Rattle.jx_tier2_writer.specs.Ready.{AllShort, AreReady, AreShort, HasList, c
 use Rattle.jx_tier2_writer.specs.Index.{entries_told, entry_of, index_of, index_segments, indexed, length_before}
 use Rattle.jx_tier2_writer.specs.Strict.{AreStrictParts, IsStrict, IsStrictTile}
 use Rattle.jx_tier2_writer.proofs.AlikeLemmas.{AreAlike, cod_alike}
-use Rattle.jx_tier2_writer.proofs.IndexedLemmas.{cut_to, list_same, main_alike, ready_to, tiles_alike}
+use Rattle.jx_tier2_writer.proofs.IndexedLemmas.{cover_same, cut_to, list_same, main_alike, ready_to, tiles_alike}
 use Rattle.jx_tier2_writer.proofs.IndexedLemmas.{geometry_is as indexed_geometry}
 use Rattle.jx_tier2_writer.proofs.MadeLemmas.{made_long}
 use Rattle.jx_tier2_writer.proofs.StrictLemmas.{has_eph, has_sop, strict_made}
@@ -60,14 +60,6 @@ use Rattle.jx_base.specs.Limits.{most_bytes}
 planned_is : (m : Marks) (s : Stream) (t : ℕ) (blocks : List Block) → ArePlanned s t blocks (packets_of m s t blocks)
 unfolding packets_of
 planned_is m s t blocks c r k has = record { before = λ l le. refl; headers = λ l lt. refl; parts = λ l lt. refl; bytes = λ l lt. refl }
-
--- covers of one geometry, number of layers and entries
-cover_same : (g h : Geometry) (layers other : ℕ) (entries later : List Progression) → h ≡ g → other ≡ layers → later ≡ entries → AreCovered g layers entries → AreCovered h other later
-cover_same g h layers other entries later eg el ee is =
-    let P : Geometry → Type 0 = λ z. AreCovered z other later in
-    let Q : ℕ → Type 0 = λ z. AreCovered g z later in
-    let R : List Progression → Type 0 = λ z. AreCovered g layers z in
-    subst P (sym eg) (subst Q (sym el) (subst R (sym ee) is))
 
 module _ (m : Marks) (s : Stream) (blocks : List Block) (b : List ℕ) (parts : ℕ → List TilePart) (groups : ℕ → List (List PacketName)) (ready : AreReady m s)
     (cut : (t : ℕ) → t < tile_number s.siz → IsCutInto m s blocks t (parts t) (groups t)) (short : AllShort parts (tile_number s.siz))

@@ -43,7 +43,7 @@ WrittenReady =
 
 pub plan_ready : (p : Plan) → IsPlan p → WrittenReady → AreReady p.wanted.marks (headers_of p)
 plan_ready p is written =
-    written p.wanted p.layers p.stream is.some is.few is.wanted is.may.headers is.may.range is.may.totals (record { fits = is.fits; few = is.packets; parts = is.parts; entries = is.entries; claimed = is.claimed })
+    written p.wanted p.layers p.stream is.some is.few is.wanted is.may.headers is.may.range is.may.totals (record { fits = is.fits; few = is.packets; placed = is.placed; parts = is.parts; entries = is.entries; claimed = is.claimed })
 
 -- ---- a tile's blocks, by the laws on parameters that stay
 pub record ParametersStay : Type 0 where

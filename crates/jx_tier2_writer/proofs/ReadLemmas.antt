@@ -40,6 +40,7 @@ use Rattle.jx_tier2_writer.proofs.AlikeLemmas.{AreAlike, all_planes_alike, few_a
 use Rattle.jx_tier2_writer.proofs.FewLemmas.{few_packets, groups_few}
 use Rattle.jx_tier2_writer.proofs.HeaderLemmas.{same_slots}
 use Rattle.jx_tier2_writer.proofs.InPlaceLemmas.{none_packed}
+use Rattle.jx_plan.specs.Changes.{entries_by, main_order}
 use Rattle.jx_tier2_writer.proofs.MadeLemmas.{header_is, made_entries, made_filled, made_in_place, made_long, made_notes, made_of}
 use Rattle.jx_tier2_writer.proofs.PlaceLemmas.{AllOf, exact_all, none_lacks, parts_here, place_of, some_part, tile_bytes}
 use Rattle.jx_tier2_writer.proofs.TurnLemmas.{AreOf, exact_parts}
@@ -97,12 +98,11 @@ notes_made m comps t own ps parts at (names ∷ groups) =
     let p : TilePart = tile_part comps t 0 parts (written_part_header m own 0 (map (packet_length ps) names)) (bytes_from ps 0 names) in
     made_notes m comps t own ps parts 1 (0 + length names) (at + length (part_bytes comps p)) groups (omega arith)
 
-entries_are : (main : List Segment) (own : List PlacedPart) (header : List Segment) → entries_joined (headers_of own) ≡ [] → entries_joined main ≡ [] → in_slot 1 (first_header own) ≡ in_slot 1 header
-    → progressions_of main own ≡ or_list (entry_in (in_slot 1 header)) (entry_in (in_slot 1 main))
-entries_are main own header none none_main alike =
-    ap (λ (z : List Progression). or_list z (or_list (entries_joined main) (or_list (entry_in (in_slot 1 (first_header own))) (entry_in (in_slot 1 main))))) none
-    ∙ ap (λ (z : List Progression). or_list z (or_list (entry_in (in_slot 1 (first_header own))) (entry_in (in_slot 1 main)))) none_main
-    ∙ ap (λ (z : Option Segment). or_list (entry_in z) (entry_in (in_slot 1 main))) alike
+entries_are : (main : List Segment) (own : List PlacedPart) (header : List Segment) → entries_joined (headers_of own) ≡ entries_joined header → in_slot 1 (first_header own) ≡ in_slot 1 header
+    → progressions_of main own ≡ entries_by (main_order main) header
+entries_are main own header joined alike =
+    ap (λ (z : List Progression). or_list z (or_list (entries_joined main) (or_list (entry_in (in_slot 1 (first_header own))) (entry_in (in_slot 1 main))))) joined
+    ∙ ap (λ (z : Option Segment). or_list (entries_joined header) (or_list (entries_joined main) (or_list (entry_in z) (entry_in (in_slot 1 main))))) alike
 
 module _ (m : Marks) (s : Stream) (blocks : List Block) (b : List ℕ) (parts : ℕ → List TilePart) (groups : ℕ → List (List PacketName)) (ready : AreReady m s)
     (cut : (t : ℕ) → t < tile_number s.siz → IsCutInto m s blocks t (parts t) (groups t)) (short : AllShort parts (tile_number s.siz))
@@ -203,8 +203,7 @@ module _ (m : Marks) (s : Stream) (blocks : List Block) (b : List ℕ) (parts : 
   progressions_same t lt =
       ap (λ (x : Tile). x.progressions) (tile_is t lt)
       ∙ entries_are s.main (own_parts t) (header_of s t)
-      (made_entries m comps t (header_of s t) (packets_of m s t blocks) (length (groups t)) 0 0 (place_of comps parts start t) (groups t) (ready.tiles t lt).entries)
-      ready.entries (first_alike t lt 1 (omega arith))
+      (made_entries m comps t (header_of s t) (packets_of m s t blocks) (length (groups t)) 0 (place_of comps parts start t) (groups t) (cut t lt).some) (first_alike t lt 1 (omega arith))
       ∙ sym (ready.tiles t lt).progressions
 
   pub header_with : (t : ℕ) → t < tiles → IsWithLengths (header_of s t) (header_of it t)

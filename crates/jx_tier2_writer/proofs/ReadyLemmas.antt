@@ -3,7 +3,7 @@ use Rattle.std.proofs.Common.{◌≡◌, ◌∙◌, ◌<◌, ◌≤◌, ◌+◌,
 use Rattle.std.specs.List.{All}
 use Rattle.std.specs.Option.{option_or}
 use Rattle.std.proofs.lemmas.Option.{slice_get-get_or}
-use Rattle.std.proofs.lemmas.List.Elements.{All-cons, All-nil}
+use Rattle.std.proofs.lemmas.List.Elements.{All-weaker}
 use Rattle.jx_base.specs.OrderNumbers.{IsOrderNumber}
 use Rattle.jx_base.specs.declared.names.Band.{Band}
 use Rattle.jx_base.proofs.Lists.{All-flat}
@@ -22,7 +22,7 @@ use Rattle.jx_codestream.specs.Headers.{has_slot}
 use Rattle.jx_codestream.specs.InRange.{StreamInRange}
 use Rattle.jx_codestream.specs.Params.{band_planes, chosen, cod_or, header_in, header_of, number_of, params_of, planes_at, precincts_of, quant_at, quant_of, shape_at, shape_of, shape_or, shift_at, shift_of, tile_planes}
 use Rattle.jx_codestream.specs.Shapes.{geometry, layers_of, no_size, no_tile, shape_in, size_of, tile_at}
-use Rattle.jx_codestream.specs.Tiles.{entry_of, in_slot}
+use Rattle.jx_codestream.specs.Tiles.{in_slot}
 use Rattle.jx_codestream.proofs.PlaneLemmas.{all_planes, number_inside, tile_fits}
 use Rattle.jx_codestream.proofs.RangeLemmas.{shapes_at, shapes_length, few_tiles, planes_fit}
 use Rattle.jx_codestream.proofs.SegmentLemmas.{chosen_fits, chosen_there, cod_there, defaults_there, IsCoded, IsQuantized, IsShaped, or_chosen, or_there, quant_there, segments_fit, shape_there, slot_chosen, slot_there}
@@ -32,7 +32,9 @@ use Rattle.jx_tile.proofs.TotalLemmas.{geometry_fits}
 use Rattle.jx_progression.proofs.ExistLemmas.{orders_exist}
 use Rattle.jx_tier2_writer.specs.Ready.{AreReady, HasList}
 use Rattle.jx_options.specs.declared.Marks.{Marks}
-use Rattle.jx_tier2_writer.proofs.CoverLemmas.{cover_all, has_cod}
+use Rattle.jx_plan.specs.Changes.{entries_by, main_order}
+use Rattle.jx_plan.specs.Standing.{IsEntry}
+use Rattle.jx_plan.proofs.EntryLemmas.{by_fit, has_order}
 
 module _ (m : Marks) (s : Stream) (ready : AreReady m s) where
   abbrev comps : ℕ
@@ -96,16 +98,11 @@ module _ (m : Marks) (s : Stream) (ready : AreReady m s) where
       planes_fit (quant_at s t c) (shape_at s t c) (shift_at s t c) (number_of r band) (quantized_at t c inside).quant (shaped_at t c inside).shape
       (quantized_at t c inside).is (shaped_at t c inside).is (number_inside (shape_or (shape_at s t c)).levels r band level has) (bands_fit t c inside within)
 
-  -- the one entry names one of the five orders
+  -- each entry names one of the five orders
   orders_fit : (t : ℕ) → t < tile_number s.siz → All (λ (e : Progression). IsOrderNumber e.order) (tile_at s t).progressions
   orders_fit t inside =
-      let found = has_cod (header_of s t) s.main both_there.0 in
-      let coded = coded_at t inside in
-      let both : Some found.cod ≡ Some coded.cod = sym found.is ∙ coded.is in
-      let same : found.cod ≡ coded.cod = cc in
-      let low : IsOrderNumber found.cod.order = omega (arith, ap (λ (x : Cod). x.order) same, coded.fits.order) in
-      subst (λ (z : List Progression). All (λ (e : Progression). IsOrderNumber e.order) z) (sym ((ready.tiles t inside).progressions ∙ found.entries))
-      (All-cons (λ (e : Progression). IsOrderNumber e.order) (entry_of found.cod) [] low (All-nil (λ (e : Progression). IsOrderNumber e.order)))
+      subst (λ (z : List Progression). All (λ (e : Progression). IsOrderNumber e.order) z) (sym (ready.tiles t inside).progressions)
+      (All-weaker (IsEntry comps) (λ (e : Progression). IsOrderNumber e.order) (has_order comps) (entries_by (main_order s.main) (header_of s t)) (by_fit comps s.main (header_of s t) main_fit (own_fit t inside)))
 
   pub ready_in_range : StreamInRange s
   ready_in_range = record {
@@ -129,10 +126,7 @@ module _ (m : Marks) (s : Stream) (ready : AreReady m s) where
   ready_geometry t inside = geometry_fits s t ready_in_range ready.totals inside
 
   pub ready_whole : (t : ℕ) → t < tile_number s.siz → IsWhole s t
-  ready_whole t inside =
-      let found = has_cod (header_of s t) s.main both_there.0 in
-      cover_all (geometry s t) (layers_of s t) found.cod (tile_at s t).progressions (ready_in_range.shapes t inside)
-      (sym (ap (λ (x : Option Cod). (cod_or x).layers) found.is)) ((ready.tiles t inside).progressions ∙ found.entries)
+  ready_whole t inside = (ready.tiles t inside).whole
 
   pub ready_list : (t : ℕ) → t < tile_number s.siz → HasList s t
   ready_list t inside = orders_exist (geometry s t) (layers_of s t) (tile_at s t).progressions (length (tile_at s t).progressions) (ready_geometry t inside)

@@ -7,7 +7,7 @@ use Rattle.jx_codestream.specs.declared.Stream.{Stream}
 use Rattle.jx_codestream.specs.First.{tile_number}
 use Rattle.jx_codestream.specs.Params.{header_of, params_of, planes_at, step_of}
 use Rattle.jx_codestream.specs.Read.{IsRead}
-use Rattle.jx_codestream.specs.Shapes.{geometry, shapes_of}
+use Rattle.jx_codestream.specs.Shapes.{geometry, shapes_of, tile_at}
 use Rattle.jx_tier2_reader.specs.Gathered.{IsGathered}
 use Rattle.jx_tier2_reader.specs.WellFormed.{IsWellFormed}
 use Rattle.jx_plan.specs.Asides.{is_informational, is_left_out}
@@ -15,6 +15,7 @@ use Rattle.jx_plan.specs.Headers.{comp_written, params_written, rsiz_written, wi
 use Rattle.jx_plan.specs.Meaning.{meaning_of}
 use Rattle.jx_codeblock.specs.FirstLayers.{HasFirstLayers}
 use Rattle.jx_plan.specs.Layers.{ends_of}
+use Rattle.jx_plan.specs.Plan.{headers_with}
 use Rattle.jx_layers.specs.Rule.{Rule}
 use Rattle.jx_plan.specs.Planned.{blocks_written, layers_of_rule}
 use Rattle.jx_options.specs.Wanted.{Wanted}
@@ -29,8 +30,11 @@ pub record IsKeptIn (w : Wanted) (rule : Rule) (before after : Stream) (blocks :
   pub gathered : IsGathered out after (blocks_written w rule before blocks)
   pub formed : IsWellFormed out
   pub strict : IsStrict w.marks out after
-  -- no POC, TLM, PLM, PPM, PPT or skipped marker, in the main header before its index and in each tile's; the main
-  -- header's CRG and COM, in their order
+  -- a reader takes the packets of each tile in the order of the entries in which they were written
+  pub orders : (t : ℕ) → t < tile_number before.siz
+      → (tile_at after t).progressions ≡ (tile_at (headers_with w (layers_of_rule rule before blocks) before) t).progressions
+  -- no TLM, PLM, PPM, PPT or skipped marker, in the main header before its index and in each tile's; the main header's CRG and
+  -- COM, in their order
   pub left_main : list_any is_left_out strict.front ≡ false
   pub left_header : (t : ℕ) → t < tile_number before.siz → list_any is_left_out (header_of after t) ≡ false
   pub informs : filter is_informational after.main ≡ filter is_informational before.main

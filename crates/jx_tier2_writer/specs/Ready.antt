@@ -4,17 +4,17 @@ use Rattle.std.specs.Prelude.{◌≡◌, ◌<◌, ◌^◌, ℕ, false, List, [],
 use Rattle.jx_base.specs.Joined.{joined}
 use Rattle.jx_marker.specs.declared.Cod.{Cod}
 use Rattle.jx_marker.specs.Ranges.{SizInRange}
-use Rattle.jx_codestream.specs.Headers.{cod_slot, has_packed}
+use Rattle.jx_codestream.specs.Headers.{has_packed}
 use Rattle.jx_codestream.specs.declared.headers.HeaderKind.TheVariants.{Main, First}
 use Rattle.jx_codestream.specs.declared.Stream.{Stream}
 use Rattle.jx_codestream.specs.First.{tile_number, tiles_fault, lacks_default}
-use Rattle.jx_codestream.specs.Tiles.{entries_joined}
-use Rattle.jx_codestream.specs.Tiles.{entry_in, in_slot, or_list, tiles_of}
+use Rattle.jx_codestream.specs.Tiles.{tiles_of}
 use Rattle.jx_codestream.specs.Params.{cod_of, cod_or, header_of, planes_fault, tile_has_too_few}
 use Rattle.jx_codestream.specs.Shapes.{tile_at}
 use Rattle.jx_codestream.specs.Spells.{TilePart, AreSegments, first_sot, placed}
 use Rattle.jx_progression.specs.declared.names.PacketName.{PacketName}
-use Rattle.jx_tile.specs.Covered.{IsListOf}
+use Rattle.jx_plan.specs.Changes.{entries_by, main_order}
+use Rattle.jx_tile.specs.Covered.{IsListOf, IsWhole}
 use Rattle.jx_tile.specs.Totals.{totals_fault}
 use Rattle.jx_tier2_writer.specs.Told.{has_lengths}
 use Rattle.jx_options.specs.declared.Marks.{Marks}
@@ -29,14 +29,15 @@ cod_at s t = cod_or (cod_of (header_of s t) s.main)
 abbrev pub HasList : Stream → ℕ → Type 0
 HasList s t = (list : List PacketName) × IsListOf s t list
 
--- one tile's header: no POC, PLT and PPT, and the packets' order is that of its COD
+-- one tile's header: no PLT and PPT, and the packets stand in the order that the headers say, which has all of them
 pub record IsTileReady (m : Marks) (s : Stream) (t : ℕ) : Type 0 where
   -- rules 1 to 14, 18 and 19
   pub header : AreSegments First (length s.siz.comps) [] (header_of s t)
-  pub entries : entries_joined (header_of s t) ≡ []
   pub lengths : has_lengths (header_of s t) ≡ false
   pub in_place : has_packed (header_of s t) ≡ false
-  pub progressions : (tile_at s t).progressions ≡ or_list (entry_in (in_slot cod_slot (header_of s t))) (entry_in (in_slot cod_slot s.main))
+  pub progressions : (tile_at s t).progressions ≡ entries_by (main_order s.main) (header_of s t)
+  -- rule 25
+  pub whole : IsWhole s t
   -- A.8: Scod says what stands in the tile's data
   pub sop : (cod_at s t).sop ≡ m.sop
   pub eph : (cod_at s t).eph ≡ m.eph
@@ -49,8 +50,6 @@ pub record AreReady (m : Marks) (s : Stream) : Type 0 where
   pub siz : SizInRange s.siz
   -- rules 1 to 14, 18 and 19
   pub main : AreSegments Main (length s.siz.comps) [] s.main
-  -- no POC
-  pub entries : entries_joined s.main ≡ []
   -- no PPM
   pub in_place : has_packed s.main ≡ false
   -- rule 17

@@ -1,4 +1,4 @@
--- The file that is written from headers and code-blocks: for each tile its packets in the order of its one progression entry, each
+-- The file that is written from headers and code-blocks: for each tile its packets in the order of its progression entries, each
 -- with its SOP, its one header, its EPH and its blocks' pieces, cut into tile-parts (ITU-T T.800, A.4, A.8, B.9 to B.12).
 use Rattle.std.specs.Prelude.{◌≡◌, ◌<◌, ℕ, zero, suc, ◌+◌, List, [], ◌∷◌, ◌++◌, length, map, if◌then◌else◌}
 use Rattle.jx_base.specs.declared.pieces.Block.{Block}

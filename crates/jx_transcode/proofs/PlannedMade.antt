@@ -53,6 +53,9 @@ use Rattle.jx_generate.specs.Plain.{IsPlain}
 use Rattle.jx_generate.specs.Reading.{stream_made}
 use Rattle.jx_transcode.specs.MakeRun.{wanted_made}
 use Rattle.jx_plan.specs.Profile.{unclaimed}
+use Rattle.jx_plan.specs.Strays.{IsStray}
+use Rattle.jx_plan.proofs.PlanLemmas.{none_placed}
+use Rattle.jx_options.specs.Wanted.{MayBeWanted}
 
 -- the resolution doesn't fall
 abbrev Rises : PacketName → PacketName → Type 0
@@ -202,9 +205,22 @@ module _ (laws : MadeLaws) (w h size : ℕ) (blocks : List Block) (sizes : AreSi
   by_late layers number place (inr (inl ten)) = let asked : false ≡ true = ten.1.many.asked in absurd (cc)
   by_late layers number place (inr (inr eleven)) = unclaimed_made layers place eleven.1.first
 
+  fits : Fits None own
+  fits = laws.fit own may.headers
+
+  -- no progression changes are asked
+  may_want : MayBeWanted wanted_made
+  may_want = record { order = omega arith; changes = inl refl; bytes = tt; style = record { few = omega arith; free = refl } }
+
+  stray_made : (layers place : ℕ) → 1 ≤ layers → layers < 2 ^ 16 → IsStray own wanted_made layers place → ⊥
+  stray_made layers place some few (inl outside) = let e : false ≡ true = outside.0 in absurd (cc)
+  stray_made layers place some few (inr first) =
+      first.1.stray ((none_placed wanted_made layers own (headers_with wanted_made layers own) may.headers may.range may_want fits some few refl refl).each place first.1.inside)
+
   by_rule : (r : Rule) (e : PlanFault) → MakesLayers (Some r) own blocks → (e ≡ fault.NoMemory → ⊥) → IsUnplannedBy r own blocks wanted_made e → ⊥
-  by_rule r (fault.Choice number place) makes caused (inl four) = not_crowded r _ blocks place (slice_get blocks place) plain refl four.1.lowest.0
-  by_rule r (fault.Choice number place) makes caused (inr late) = by_late (layers_of_rule r own blocks) number place late.cause
+  by_rule r (fault.Choice number place) makes caused (inl twelve) = stray_made (layers_of_rule r own blocks) place makes.0 makes.1 twelve.1.stray
+  by_rule r (fault.Choice number place) makes caused (inr (inl four)) = not_crowded r _ blocks place (slice_get blocks place) plain refl four.1.lowest.0
+  by_rule r (fault.Choice number place) makes caused (inr (inr late)) = by_late (layers_of_rule r own blocks) number place late.cause
   by_rule r (fault.Limit number found) makes caused seven =
       let few = few_packets laws w h size _ sizes makes.1 in
       omega (arith, few, seven.1.count, seven.1.many)
@@ -217,9 +233,6 @@ module _ (laws : MadeLaws) (w h size : ℕ) (blocks : List Block) (sizes : AreSi
   lacking : (rule : Option Rule) (e : PlanFault) → MakesLayers rule own blocks → (e ≡ fault.NoMemory → ⊥) → LacksPlan rule own blocks wanted_made e → LacksRule rule e
   lacking None e makes caused lacks = (refl, lacks.1)
   lacking (Some r) e makes caused lacks = absurd (by_rule r e makes caused lacks)
-
-  fits : Fits None own
-  fits = laws.fit own may.headers
 
   unfit : (e : PlanFault) → (e ≡ fault.NoMemory → ⊥) → AreUnfit own None e → ⊥
   unfit (fault.Choice number place) caused is = not_unfit own number place fits is

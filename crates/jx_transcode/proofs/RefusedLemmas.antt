@@ -65,8 +65,9 @@ late_below s w layers number place (inr (inr eleven)) = inr (omega (arith, eleve
 
 by_below : (r : Rule) (s : Stream) (blocks : List Block) (w : Wanted) (e : PlanFault) → IsUnplannedBy r s blocks w e → IsBelow e
 unfolding IsBelow
-by_below r s blocks w (unplanned.Choice number place) (inl crowded) = inl (omega (arith, crowded.0))
-by_below r s blocks w (unplanned.Choice number place) (inr late) = late_below s w (layers_of_rule r s blocks) number place late.cause
+by_below r s blocks w (unplanned.Choice number place) (inl stray) = inr (omega (arith, stray.0))
+by_below r s blocks w (unplanned.Choice number place) (inr (inl crowded)) = inl (omega (arith, crowded.0))
+by_below r s blocks w (unplanned.Choice number place) (inr (inr late)) = late_below s w (layers_of_rule r s blocks) number place late.cause
 by_below r s blocks w (unplanned.Limit number found) is = is.0
 by_below r s blocks w unplanned.NoMemory is = tt
 

@@ -27,7 +27,7 @@ HasOneFile = (aim : Aim) (input : List ℕ) (s t : Status) → aim.limit ≤ mos
 
 -- a rule or a limit stands in the verdict of any aim
 abbrev pub any_aim : ℕ → Aim
-any_aim limit = record { wanted = record { order = None; precincts = None; style = None; layers = []; marks = no_marks; rsiz = rsiz.Zero }; reduce = 0; limit = limit; rule = λ facts. None }
+any_aim limit = record { wanted = record { order = None; changes = Some []; precincts = None; style = None; layers = []; marks = no_marks; rsiz = rsiz.Zero }; reduce = 0; limit = limit; rule = λ facts. None }
 
 pub inner_short : (most : ℕ) (input inner : List ℕ) (from : ℕ) → HasCodestream input from inner → length input ≤ most → length inner ≤ most
 inner_short most input inner from (inl bare) short = rw bare.2 short

@@ -1,6 +1,6 @@
 -- How a run of `make` ends: the generated codestream of a seed, a width and a height is transcoded in memory with fixed options, and one
 -- line says how long both are.
-use Rattle.std.specs.Prelude.{◌≡◌, ◌⊎◌, ℕ, ◌^◌, true, List, ◌++◌, length, Option, None, Some, codes}
+use Rattle.std.specs.Prelude.{◌≡◌, ◌⊎◌, ℕ, ◌^◌, true, List, [], ◌++◌, length, Option, None, Some, codes}
 use Rattle.std.specs.Fmt.{decimal}
 use Rattle.std.specs.List.{sum}
 use Rattle.jx_io.specs.Device.{Meaning}
@@ -25,6 +25,7 @@ use Rattle.jx_rounds.specs.declared.tape.TapeEntry.{TapeEntry}
 abbrev pub wanted_made : Wanted
 wanted_made = record {
   order = Some 2;
+  changes = Some [];
   precincts = None;
   style = Some (record { bits = 33 });
   layers = codes "one";

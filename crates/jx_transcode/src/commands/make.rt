@@ -19,7 +19,7 @@ use jx_base::Style;
 use jx_cli::Make;
 use jx_io::{Gate, Sink};
 use jx_layers::LayerPlanner;
-use jx_options::{Marks, Options, OrderChoice, PartChoice, PrecinctChoice, RsizChoice, Work};
+use jx_options::{Marks, Options, OrderChoice, PocChoice, PartChoice, PrecinctChoice, RsizChoice, Work};
 use jx_rounds::{Crew, TapeEntry};
 use std::alloc::{AllocError, Global};
 use std::sync::Wait;
@@ -56,6 +56,7 @@ fn options(alloc: Global) -> Result<Options, AllocError>
 {
     Ok(Options {
         order: OrderChoice::Order(2),
+        poc: PocChoice::None,
         precincts: PrecinctChoice::Keep,
         style: Some(Style { bits: 33 }),
         layers: String::from_str(alloc, "one")?,

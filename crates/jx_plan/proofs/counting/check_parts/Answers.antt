@@ -18,6 +18,7 @@ pub all_parts-requires-clause-whole : goal.all_parts-requires-clause-whole
 all_parts-requires-clause-whole c =
     let few : c.args.layers < 2 ^ 16 = search rules in
     headers_whole c.args.options.now c.args.layers c.args.stream.now c.args.written.now c.requires.stand c.requires.range c.requires.wanted c.requires.fits c.requires.some few c.requires.written
+    c.requires.placed
 
 pub returns-in-Ok-clause-few : goal.returns-in-Ok-clause-few
 returns-in-Ok-clause-few c =

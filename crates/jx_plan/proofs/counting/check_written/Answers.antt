@@ -34,5 +34,5 @@ returns-clause-cause c =
     let entries : HasFewEntries c.args.options.now.marks (headers_with c.args.options.now c.args.layers c.args.stream.now) =
     entries_made c.options.inside.marks c.args.options.now c.args.layers c.args.stream.now c.args.written.now own c.requires.written c.in_default.ensures.few in
     IfErr-weaker c.check_profile.result _ _
-    (unmet_late c.options.inside.marks c.args.options.now c.args.layers c.args.stream.now c.args.written.now own c.requires.written c.requires.fits c.requires.few c.in-Ok.ensures.few entries)
+    (unmet_late c.options.inside.marks c.args.options.now c.args.layers c.args.stream.now c.args.written.now own c.requires.written c.requires.fits c.requires.few c.requires.placed c.in-Ok.ensures.few entries)
     c.check_profile.ensures.cause

@@ -1,14 +1,8 @@
-use Rattle.jx_plan.proofs.PlainLemmas.{main_plain, header_stands, entries_plain, lengths_plain, left_main, left_header, main_informs, order_plain, cods_are, totals_plain}
+use Rattle.jx_plan.proofs.PlainLemmas.{header_stands, lengths_plain, left_main, left_header, main_informs, order_plain, cods_are, totals_plain}
 use Rattle.jx_plan.proofs.laws.written_headers_are_plain.Goals as goal
-
-pub returns-clause-main : goal.returns-clause-main
-returns-clause-main c = λ a s stand. main_plain a s stand
 
 pub returns-clause-header : goal.returns-clause-header
 returns-clause-header c = λ a s t stand may none inside. header_stands a s stand t may none inside
-
-pub returns-clause-entries : goal.returns-clause-entries
-returns-clause-entries c = λ a s t stand inside. entries_plain a s stand t inside
 
 pub returns-clause-lengths : goal.returns-clause-lengths
 returns-clause-lengths c = λ a s t stand inside. lengths_plain a s stand t inside
