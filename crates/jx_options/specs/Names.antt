@@ -231,7 +231,7 @@ range_of _ = []
 -- what a value has to be that is neither a number, nor listed, nor any text
 abbrev pub form_of : OptionName → List ℕ
 form_of name.Poc = codes "none, keep, or 1 to 32 volumes RS,CS,LYE,RE,CE,ORDER with / between them:\n  RS 0 to 32, CS 0 to 16383, LYE 1 to 65535, RE 1 to 33, CE 1 to 16384,\n  RS below RE, CS below CE, ORDER lrcp, rlcp, rpcl, pcrl or cprl in any case"
-form_of name.Precincts = codes "keep, max, or 1 to 33 items XxY with commas, X and Y from 0 to 15"
+form_of name.Precincts = codes "keep, max, or 1 to 33 items XxY with commas, X and Y from 0 to 15;\n  exponents: 8x8 is 256 by 256"
 form_of name.Style = codes "keep, none, or names with + between them, each at most once:\n  bypass, reset, terminate, causal, segment"
 form_of name.Threads = codes "auto, or a number from 1 to 64, without a sign or leading zeros"
 form_of name.CompareThreads = codes "auto, or a number from 1 to 64, without a sign or leading zeros"

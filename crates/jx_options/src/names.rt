@@ -373,7 +373,7 @@ impl OptionName {
                 "none, keep, or 1 to 32 volumes RS,CS,LYE,RE,CE,ORDER with / between them:\n  RS 0 to 32, CS 0 to 16383, LYE 1 to 65535, RE 1 to 33, CE 1 to 16384,\n  RS below RE, CS below CE, ORDER lrcp, rlcp, rpcl, pcrl or cprl in any case"
             }
             OptionName::Precincts => {
-                "keep, max, or 1 to 33 items XxY with commas, X and Y from 0 to 15"
+                "keep, max, or 1 to 33 items XxY with commas, X and Y from 0 to 15;\n  exponents: 8x8 is 256 by 256"
             }
             OptionName::Style => {
                 "keep, none, or names with + between them, each at most once:\n  bypass, reset, terminate, causal, segment"
