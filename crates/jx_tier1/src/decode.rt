@@ -128,7 +128,7 @@ fn run_block<'a>(
         read_from (coding_of coded.now.band coded.now.style.bits coded.now.planes) coded.now.passes 0 decoder.old) }
     ensures within { OnOk result (AreWithin coded.now.planes coded.now.planes decoder.new.cells) }
 {
-    let tables = Tables::new(alloc, coded.band)?;
+    let tables = Tables::new(coded.band);
     let mut block = BlockState::new(alloc, width, height)?;
     run(decoder, &mut block, &tables, coded)
 }

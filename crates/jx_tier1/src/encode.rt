@@ -97,7 +97,7 @@ fn run_block<'a>(
     ensures { OnOk result (encoder.new.done ≡ encoder.old.done ++ finished_from style.bits 0 encoder.old.writing
         (needs_from (coding_of band style.bits planes) encoder.old.writing.target passes 0 (zeros width height))) }
 {
-    let tables = Tables::new(alloc, band)?;
+    let tables = Tables::new(band);
     let mut block = BlockState::new(alloc, width, height)?;
     run(
         encoder, &mut block, alloc, &tables, band, style, planes, passes,

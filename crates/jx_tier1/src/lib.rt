@@ -26,6 +26,7 @@ mod recode;
 mod recoder;
 mod rest;
 mod same;
+mod tables;
 mod word_passes;
 mod words;
 mod writer;

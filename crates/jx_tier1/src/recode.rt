@@ -162,7 +162,7 @@ fn run_block<'a>(
         let start = placed (zeros width height) recoder.old in
         OnOk result (recoder.new.wrong ≡ (recoded_from (coding_of band coded.now.style.bits planes) (coding_of band style.bits planes) coded.now.passes 0 start).wrong) }
 {
-    let tables = Tables::new(alloc, coded.band)?;
+    let tables = Tables::new(coded.band);
     let mut block = BlockState::new(alloc, width, height)?;
     run(recoder, &mut block, alloc, &tables, coded, style)
 }

@@ -89,7 +89,7 @@ pub fn same_flags(
         two: Half::new(b.segments.as_slice()),
         alike: true,
     };
-    let tables = Tables::new(alloc, a.band)?;
+    let tables = Tables::new(a.band);
     let mut block = BlockState::new(alloc, width, height)?;
     run(&mut comparer, &mut block, &tables, a, b.style)
 }
