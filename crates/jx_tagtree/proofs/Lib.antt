@@ -8,3 +8,4 @@ pub mod TagLemmas
 pub mod LeafLemmas
 pub mod QuestionLemmas
 mod PastLemmas
+mod OneLeafLemmas

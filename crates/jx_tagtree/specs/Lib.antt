@@ -9,3 +9,4 @@ pub mod Scan
 pub mod Place
 pub mod Kept
 pub mod KeptLeaves
+pub mod Forms

@@ -4,6 +4,7 @@
 pub mod laws;
 pub(crate) mod node;
 mod passing;
+mod read_tree;
 mod reader;
 mod reading;
 mod shape;

@@ -1,6 +1,6 @@
 //! The bits of a tag tree on the way from its root to a leaf, read (T.800, B.10.2).
 
-ghost use Rattle.std.specs.Prelude.{◌≡◌, ◌+◌, ◌-◌, ◌<◌, ◌≤◌, ◌++◌, max, Some, None, IfOk, IfErr, length, slice_index, ℕ};
+ghost use Rattle.std.specs.Prelude.{◌≡◌, ◌∷◌, [], ◌+◌, ◌-◌, ◌<◌, ◌≤◌, ◌++◌, max, Some, None, IfOk, IfErr, length, slice_index, ℕ};
 ghost use Rattle.jx_tagtree.specs.Header.{Took, to_come, fault_of, exhausted};
 ghost use Rattle.jx_tagtree.specs.Scan.{scan, scan_one, scan_way, Zeros, Found, Scanned, PartRead, WayRead};
 ghost use Rattle.jx_tagtree.specs.Kept.{IsWayIn};
@@ -50,6 +50,26 @@ pub(crate) fn read_node(
         return Ok(node);
     }
     read_zeros(start, threshold, bits)
+}
+
+/// Reads the bits of the only node of a tag tree of one leaf, and says whether its value is below the threshold.
+pub(crate) fn read_leaf(
+    node: &mut Node,
+    threshold: u32,
+    bits: &mut BitReader<'_>,
+) -> Result<bool, BitFault>
+    ensures ok { IfOk result (λ below. WayRead threshold (node.old ∷ []) 0 (0 ∷ []) (to_come bits.old) below (node.new ∷ []) (to_come bits.new)) }
+    ensures took { IfOk result (λ _. Took bits.old bits.new) }
+    ensures err { IfErr result (λ e. (scan_way threshold (node.old ∷ []) (0 ∷ []) (to_come bits.old) ≡ None) × (e ≡ fault_of bits.old)) }
+    ensures given { IfErr result (λ _. bits.new ≡ exhausted bits.old) }
+{
+    match read_node(*node, 0, threshold, bits) {
+        Ok(after) => {
+            *node = after;
+            Ok(after.settled && after.known < threshold)
+        }
+        Err(fault) => Err(fault),
+    }
 }
 
 /// Reads the bits of a way from the root down, and says whether its leaf's value is below the threshold.

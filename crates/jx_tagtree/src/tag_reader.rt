@@ -1,40 +1,42 @@
 //! A tag tree that is read.
 
-ghost use Rattle.std.specs.Prelude.{◌≡◌, ◌*◌, ◌<◌, ◌≤◌, ◌++◌, ℕ, Bool, List, length, Ok, OnOk, IfOk, IfErr, IfSome};
+ghost use Rattle.std.specs.Prelude.{◌≡◌, ◌*◌, ◌<◌, ◌≤◌, ◌++◌, ℕ, Bool, List, false, Ok, OnOk, IfOk, IfErr, IfSome};
 ghost use Rattle.jx_tagtree.specs.Header.{Took, to_come, fault_of, exhausted};
 ghost use Rattle.jx_tagtree.specs.Shape.{IsShape};
 ghost use Rattle.jx_tagtree.specs.TagTree.{Tree, fresh, query, ValuesOf, IsTree, HasRead};
 ghost use Rattle.jx_tagtree.specs.Past.{IsPast, AreUnder};
+ghost use Rattle.jx_tagtree.specs.Forms.{one_leaf};
 
-use crate::node::{Node, unknown_nodes};
-use crate::passing::stop_of;
-use crate::reading::read_way;
-use crate::shape::{Level, Way, count_nodes, table};
+use crate::node::Node;
+use crate::read_tree::ReadTree;
+use crate::reading::read_leaf;
 use crate::{BitFault, BitReader};
 use jx_base::NoMemory;
 use std::alloc::Global;
 use std::marker::Model;
 
+/// How a tag tree is kept. A picture may have millions of precincts of one code-block, each with two such trees.
+#[derive(Drop)]
+enum Form {
+    /// One leaf, which is the root: its node. It takes no memory of its own.
+    Leaf(Node),
+    /// More leaves.
+    More(Box<ReadTree>),
+}
+
 /// A tag tree that is read: what is known of each of its nodes (T.800 B.10.2).
 #[derive(Drop)]
 pub struct TagReader {
-    wide: u32,
-    high: u32,
-    levels: Vec<Level>,
-    nodes: Vec<Node>,
+    form: Form,
 }
 
 impl Model for TagReader {
-    ghost use Rattle.std.specs.Prelude.{◌≡◌, ◌+◌, length};
-    ghost use Rattle.jx_tagtree.specs.Shape.{IsShape, root};
-    ghost use Rattle.jx_tagtree.specs.TagTree.{Tree, IsSound};
-    ghost use Rattle.jx_tagtree.specs.Kept.{KeepsReader};
+    ghost use Rattle.jx_tagtree.specs.TagTree.{Tree};
+    ghost use Rattle.jx_tagtree.specs.Forms.{tree_in};
 
     ghost Value = { Tree };
 
-    ghost view = { λ t. record { wide = t.wide; high = t.high; nodes = t.nodes.items } };
-
-    ghost invariant = { λ t. KeepsReader t.wide t.high t.levels.items t.nodes.items };
+    ghost view = { λ t. tree_in t.form };
 }
 
 impl TagReader {
@@ -43,14 +45,18 @@ impl TagReader {
         requires { IsShape wide high }
         ensures fresh { IfOk result (λ tree. tree ≡ fresh wide high) }
     {
-        let levels = table(alloc, wide, high)?;
-        let nodes = unknown_nodes(alloc, count_nodes(wide, high))?;
-        Ok(TagReader {
-            wide,
-            high,
-            levels,
-            nodes,
-        })
+        if wide == 1 && high == 1 {
+            return Ok(TagReader {
+                form: Form::Leaf(unknown()),
+            });
+        }
+        let tree = ReadTree::new(alloc, wide, high)?;
+        match Box::new(alloc, tree) {
+            Ok(tree) => Ok(TagReader {
+                form: Form::More(tree),
+            }),
+            Err(_) => Err(NoMemory),
+        }
     }
 
     /// Whether the value of a leaf is below a threshold. It reads the bits of this query and no others.
@@ -75,26 +81,30 @@ impl TagReader {
         ensures tree { OnOk result (IsTree self.new) }
         ensures fault { IfErr result (λ e. (e ≡ fault_of bits.old) × (bits.new ≡ exhausted bits.old)) }
     {
-        let way = Way::new(&self.levels, self.wide, self.high, leaf);
-        let below = match read_way(&mut self.nodes, leaf, &way, threshold, bits) {
-            Ok(below) => below,
-            Err(fault) => return Err(fault),
-        };
-        Ok(below)
+        match &mut self.form {
+            Form::Leaf(node) => reach_leaf(node, leaf, threshold, bits),
+            Form::More(tree) => tree.reach(leaf, threshold, bits),
+        }
     }
 
     /// How many leaves stand side by side.
     pub fn wide(&self) -> u32
         ensures { result ≡ self.now.wide }
     {
-        self.wide
+        match &self.form {
+            Form::Leaf(_) => 1,
+            Form::More(tree) => tree.wide(),
+        }
     }
 
     /// How many stand one above another.
     pub fn high(&self) -> u32
         ensures { result ≡ self.now.high }
     {
-        self.high
+        match &self.form {
+            Form::Leaf(_) => 1,
+            Form::More(tree) => tree.high(),
+        }
     }
 
     /// The place on a leaf's way, 0 for the leaf and 22 at most for the root, of a node that isn't settled and
@@ -105,7 +115,53 @@ impl TagReader {
         ensures low { IfSome result (λ place. place ≤ 22) }
         ensures under { IfSome result (λ place. (other : ℕ) → other < self.now.wide * self.now.high → AreUnder self.now.wide place leaf other → IsPast self.now other threshold) }
     {
-        let way = Way::new(&self.levels, self.wide, self.high, leaf);
-        stop_of(&self.nodes, &way, threshold)
+        match &self.form {
+            Form::Leaf(node) => past_leaf(*node, threshold),
+            Form::More(tree) => tree.past(leaf, threshold),
+        }
     }
+}
+
+/// A node of which nothing is known.
+fn unknown() -> Node
+    ensures { result ≡ record { known = 0; settled = false } }
+{
+    Node {
+        known: 0,
+        settled: false,
+    }
+}
+
+/// Reads the bits of a query of the only leaf of a tag tree.
+fn reach_leaf(
+    node: &mut Node,
+    leaf: u32,
+    threshold: u32,
+    bits: &mut BitReader<'_>,
+) -> Result<bool, BitFault>
+    requires { leaf < 1 }
+    ensures took { OnOk result (Took bits.old bits.new) }
+    ensures read { IfOk result (λ below. (values : ℕ → ℕ) → ValuesOf (one_leaf node.new) values → HasRead values leaf threshold below (one_leaf node.old) bits.old (one_leaf node.new) bits.new) }
+    ensures only { (values : ℕ → ℕ) → ValuesOf (one_leaf node.old) values → (rest : List Bool) → to_come bits.old ≡ (query values (one_leaf node.old) leaf threshold).bits ++ rest →
+        (below : Bool) × (result ≡ Ok below) × HasRead values leaf threshold below (one_leaf node.old) bits.old (one_leaf node.new) bits.new }
+    ensures none { IfErr result (λ _. (values : ℕ → ℕ) → ValuesOf (one_leaf node.old) values → (rest : List Bool) → to_come bits.old ≡ (query values (one_leaf node.old) leaf threshold).bits ++ rest → ⊥) }
+    ensures some { OnOk result ((values : ℕ → ℕ) × ValuesOf (one_leaf node.new) values) }
+    ensures tree { OnOk result (IsTree (one_leaf node.new)) }
+    ensures fault { IfErr result (λ e. (e ≡ fault_of bits.old) × (bits.new ≡ exhausted bits.old)) }
+{
+    match read_leaf(node, threshold, bits) {
+        Ok(below) => Ok(below),
+        Err(fault) => Err(fault),
+    }
+}
+
+/// The place 0 where the only leaf of a tag tree isn't settled and is known to reach a threshold.
+fn past_leaf(node: Node, threshold: u32) -> Option<usize>
+    ensures low { IfSome result (λ place. place ≤ 22) }
+    ensures under { IfSome result (λ place. (other : ℕ) → other < 1 → IsPast (one_leaf node) other threshold) }
+{
+    if node.settled || threshold > node.known {
+        return None;
+    }
+    Some(0)
 }

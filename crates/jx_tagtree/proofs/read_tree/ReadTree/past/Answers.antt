@@ -5,7 +5,7 @@ use Rattle.jx_tagtree.specs.TagTree.{Tree}
 use Rattle.jx_tagtree.specs.Past.{Stops, IsPast, AreUnder}
 use Rattle.jx_tagtree.specs.declared.node.Node.{Node}
 use Rattle.jx_tagtree.proofs.PastLemmas.{way_inside, stop_low, stop_under}
-use Rattle.jx_tagtree.proofs.tag_reader.TagReader.past.Goals as goal
+use Rattle.jx_tagtree.proofs.read_tree.ReadTree.past.Goals as goal
 
 pub stop_of-requires : goal.stop_of-requires
 stop_of-requires c =
