@@ -58,6 +58,17 @@ pub(crate) fn fresh_band(alloc: Global, cells: BandCells) -> Result<Band, NoMemo
     })
 }
 
+/// How many bands have blocks, so that a precinct takes room for these alone.
+fn count_filled(bands: &[BandCells]) -> usize {
+    let mut count: usize = 0;
+    for cells in bands {
+        if cells.wide > 0 {
+            count = count.saturating_add(1);
+        }
+    }
+    count
+}
+
 /// Reads what a header of a layer has of the bands of a precinct, and appends the parts.
 fn read_bands(
     bands: &mut Vec<Band>,
@@ -129,7 +140,7 @@ impl Precinct {
         ensures state { IfOk result (λ p. IsState p) }
         ensures blocks { IfOk result (λ p. length (all_blocks p.bands) ≡ cells_in bands.now) }
     {
-        let mut made = Vec::new(alloc);
+        let mut made = Vec::with_capacity(alloc, count_filled(bands))?;
         for cells in bands {
             if cells.wide > 0 {
                 made.push(fresh_band(alloc, *cells)?)?;
