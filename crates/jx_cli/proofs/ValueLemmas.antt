@@ -11,7 +11,7 @@ use Rattle.jx_base.specs.declared.style.Style.{Style}
 use Rattle.jx_marker.specs.declared.Progression.{Progression}
 use Rattle.jx_options.specs.Names.{reduce_said, thread_count}
 use Rattle.jx_options.specs.Values.{ArePrecincts, precincts_in, precincts_said, precincts_text, style_said, style_text, value_in, whole_choices}
-use Rattle.jx_options.specs.Volumes.{AreVolumes, poc_choices, poc_said, volumes_in, volumes_text}
+use Rattle.jx_options.specs.Volumes.{AreVolumes, poc_choices, parse_poc, volumes_in, volumes_text}
 use Rattle.jx_options.specs.Wanted.{MayBeStyle}
 use Rattle.jx_options.proofs.ItemLemmas.{two_digits}
 use Rattle.jx_options.proofs.NumberLemmas.{first_digit, number_spelled}
@@ -67,7 +67,7 @@ poc_word (Some (entry ∷ entries)) = volumes_text (entry ∷ entries)
 not_chosen : (text : List ℕ) → slice_index_or text 0 0 ≤ 57 → value_in poc_choices text ≡ None
 not_chosen text low = rw (no_word text (codes "none") low (omega arith), no_word text (codes "keep") low (omega arith)) refl
 
-pub poc_back : (changes : Option (List Progression)) → IfSome changes (λ entries. (entries ≡ []) ⊎ AreVolumes entries) → poc_said (poc_word changes) ≡ Some changes
+pub poc_back : (changes : Option (List Progression)) → IfSome changes (λ entries. (entries ≡ []) ⊎ AreVolumes entries) → parse_poc (poc_word changes) ≡ Some changes
 poc_back None may = refl
 poc_back (Some []) may = refl
 poc_back (Some (entry ∷ entries)) (inl none) = absurd (omega (arith, ap length none))

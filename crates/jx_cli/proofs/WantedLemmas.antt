@@ -11,7 +11,7 @@ use Rattle.jx_options.specs.Wanted.{MayBeStyle, MayBeWanted}
 use Rattle.jx_options.specs.Names.{reduce_said, thread_count}
 use Rattle.jx_options.specs.Orders.{order_said}
 use Rattle.jx_options.specs.Values.{ArePrecincts, precincts_in, precincts_said, style_said, value_in, whole_choices}
-use Rattle.jx_options.specs.Volumes.{AreVolumes, poc_choices, poc_said, volumes_in}
+use Rattle.jx_options.specs.Volumes.{AreVolumes, poc_choices, parse_poc, volumes_in}
 use Rattle.jx_cli.specs.Words.{Given, MayBeAsked, given_in, request_by, request_of, wanted_by, work_by}
 use Rattle.jx_base.specs.Limits.{most_bytes}
 use Rattle.jx_options.specs.Work.{MayBeLimit, MayBeWork}
@@ -35,7 +35,7 @@ order_asked text = else_none IsOrderNumber (order_said text) (order_few text)
 abbrev AreChanges : List Progression → Type 0
 AreChanges entries = (entries ≡ []) ⊎ AreVolumes entries
 
-changes_few : (text : List ℕ) → IfSome (poc_said text) (λ v. IfSome v AreChanges)
+changes_few : (text : List ℕ) → IfSome (parse_poc text) (λ v. IfSome v AreChanges)
 changes_few text = by (value_in poc_choices text) (found (λ v. IfSome v AreChanges) poc_choices text (inl refl, (tt, tt))) (volumes_in text) refl
   where
     spelled : (o : Option (List Progression)) → volumes_in text ≡ o → IfSome (option_map Some o) (λ v. IfSome v AreChanges)
@@ -47,8 +47,8 @@ changes_few text = by (value_in poc_choices text) (found (λ v. IfSome v AreChan
     by None all o is = spelled o is
     by (Some v) all o is = all
 
-changes_asked : (text : List ℕ) → IfSome (unwrap_or (poc_said text) (Some [])) AreChanges
-changes_asked text = by (poc_said text) (changes_few text)
+changes_asked : (text : List ℕ) → IfSome (unwrap_or (parse_poc text) (Some [])) AreChanges
+changes_asked text = by (parse_poc text) (changes_few text)
   where
     by : (o : Option (Option (List Progression))) → IfSome o (λ v. IfSome v AreChanges) → IfSome (unwrap_or o (Some [])) AreChanges
     by None all = inl refl

@@ -15,7 +15,7 @@ use Rattle.jx_options.specs.declared.names.OptionName.TheVariants as option
 use Rattle.jx_options.specs.Names.{form_said, name_of, number_said, parts_said, reduce_said, rsiz_said, thread_count}
 use Rattle.jx_options.specs.Orders.{order_said}
 use Rattle.jx_options.specs.Values.{ArePrecincts, precincts_said, style_said}
-use Rattle.jx_options.specs.Volumes.{AreVolumes, poc_said}
+use Rattle.jx_options.specs.Volumes.{AreVolumes, parse_poc}
 
 -- the bytes of a word
 abbrev pub Text : Type 0
@@ -109,13 +109,13 @@ is_work g =
 -- each value is one of its option's
 unfoldable pub are_values : Given → Bool
 are_values g =
-    is_some (order_said g.order) && (is_some (poc_said g.poc) && (is_some (precincts_said g.precincts) && (is_some (parts_said g.parts) && (is_some (style_said g.style)
+    is_some (order_said g.order) && (is_some (parse_poc g.poc) && (is_some (precincts_said g.precincts) && (is_some (parts_said g.parts) && (is_some (style_said g.style)
     && (is_some (rsiz_said g.rsiz) && (is_some (form_said g.form) && (is_some (reduce_said g.reduce) && (is_some (number_said option.LimitBytes g.limit_bytes) && is_work g))))))))
 
 unfoldable pub wanted_by : Given → Wanted
 wanted_by g = record {
   order = unwrap_or (order_said g.order) None;
-  changes = unwrap_or (poc_said g.poc) (Some []);
+  changes = unwrap_or (parse_poc g.poc) (Some []);
   precincts = unwrap_or (precincts_said g.precincts) None;
   style = unwrap_or (style_said g.style) None;
   layers = g.layers;

@@ -15,7 +15,7 @@ use clap::ArgMatches;
 use jx_base::{NoMemory, Style};
 use jx_options::{
     FormChoice, Marks, OptionName, Options, OrderChoice, PartChoice, PocChoice, PrecinctChoice,
-    RsizChoice, Work, form_said, order_said, parts_said, poc_said, precincts_said, reduce_said,
+    RsizChoice, Work, form_said, order_said, parse_poc, parts_said, precincts_said, reduce_said,
     rsiz_said, style_said, thread_count,
 };
 use std::alloc::Global;
@@ -133,16 +133,62 @@ fn work_by(given: &Given<'_>) -> Option<Work>
     })
 }
 
-/// The request with these values.
-fn made(
+/// What stands in the tile-parts, which begin by this choice.
+fn marks_with(given: &Given<'_>, parts: PartChoice) -> Marks
+    ensures { result ≡ record {
+      sop = given.now.sop;
+      eph = given.now.eph;
+      plt = given.now.plt;
+      tlm = given.now.tlm;
+      parts = parts;
+    } }
+{
+    Marks {
+        sop: given.sop,
+        eph: given.eph,
+        plt: given.plt,
+        tlm: given.tlm,
+        parts,
+    }
+}
+
+/// How the file is to be written, by these values.
+fn options_with(
     alloc: Global,
     given: &Given<'_>,
     order: OrderChoice,
     poc: PocChoice,
     precincts: PrecinctChoice,
-    parts: PartChoice,
+    marks: Marks,
     style: Option<Style>,
     rsiz: RsizChoice,
+) -> Result<Options, NoMemory>
+    ensures { IfOk result (λ o. o ≡ record {
+      order = order_in order;
+      changes = changes_in poc;
+      precincts = bytes_in precincts;
+      style = style;
+      layers = given.now.layers;
+      marks = marks;
+      rsiz = rsiz;
+    }) }
+{
+    Ok(Options {
+        order,
+        poc,
+        precincts,
+        style,
+        layers: String::from_str(alloc, given.layers)?,
+        marks,
+        rsiz,
+    })
+}
+
+/// The request with these values.
+fn made(
+    alloc: Global,
+    given: &Given<'_>,
+    options: Options,
     form: FormChoice,
     reduce: u8,
     limit: u32,
@@ -151,15 +197,7 @@ fn made(
     ensures { IfOk result (λ r. r ≡ record {
       from = given.now.from;
       to = given.now.to;
-      wanted = record {
-        order = order_in order;
-        changes = changes_in poc;
-        precincts = bytes_in precincts;
-        style = style;
-        layers = given.now.layers;
-        marks = record { sop = given.now.sop; eph = given.now.eph; plt = given.now.plt; tlm = given.now.tlm; parts = parts };
-        rsiz = rsiz;
-      };
+      wanted = options;
       form = form;
       reduce = reduce;
       limit = limit;
@@ -169,21 +207,7 @@ fn made(
     Ok(Request {
         from: String::from_str(alloc, given.from)?,
         to: String::from_str(alloc, given.to)?,
-        options: Options {
-            order,
-            poc,
-            precincts,
-            style,
-            layers: String::from_str(alloc, given.layers)?,
-            marks: Marks {
-                sop: given.sop,
-                eph: given.eph,
-                plt: given.plt,
-                tlm: given.tlm,
-                parts,
-            },
-            rsiz,
-        },
+        options,
         form,
         reduce,
         limit,
@@ -222,15 +246,15 @@ fn request_by(alloc: Global, given: &Given<'_>) -> Result<Request, WordsFault>
     let Some(work) = work_by(given) else {
         return Err(WordsFault::Words);
     };
-    let Some(poc) = poc_said(alloc, given.poc)? else {
+    let Some(poc) = parse_poc(alloc, given.poc)? else {
         return Err(WordsFault::Words);
     };
     let Some(precincts) = precincts_said(alloc, given.precincts)? else {
         return Err(WordsFault::Words);
     };
-    Ok(made(
-        alloc, given, order, poc, precincts, parts, style, rsiz, form, reduce, limit, work,
-    )?)
+    let marks = marks_with(given, parts);
+    let options = options_with(alloc, given, order, poc, precincts, marks, style, rsiz)?;
+    Ok(made(alloc, given, options, form, reduce, limit, work)?)
 }
 
 /// Whether the second word is the command's name.
