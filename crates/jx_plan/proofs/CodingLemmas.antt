@@ -1,7 +1,9 @@
 -- Where the last COD or COC of some segments stands, and entries that are compared one by one.
-use Rattle.std.proofs.Common.{◌≡◌, ◌∙◌, ◌<◌, ◌≤◌, ◌+◌, ◌||◌, ◌&&◌, ℕ, suc, Bool, true, false, arith, List, [], ◌∷◌, ◌++◌, length, drop, take, refl, sym, ap, inl, inr, cond, slice_index_or}
+use Rattle.std.proofs.Common.{◌≡◌, ◌∙◌, ◌<◌, ◌+◌, ◌||◌, ℕ, suc, Bool, true, false, arith, add-one, List, [], ◌∷◌, ◌++◌, length, take, get_or, refl, sym, ap, inl, inr, cond}
+use Rattle.std.proofs.Math.Seq.{take-suc}
 use Rattle.std.specs.List.{list_any}
 use Rattle.std.proofs.lemmas.Bool.{cases_Bool}
+use Rattle.std.proofs.lemmas.List.{length-take-le}
 use Rattle.std.proofs.lemmas.List.Folds.{list_any-append}
 use Rattle.jx_marker.specs.declared.Progression.{Progression}
 use Rattle.jx_marker.specs.declared.Segment.{Segment}
@@ -31,13 +33,27 @@ pub end_coding : (xs : List Segment) (s : Segment) → is_coding s ≡ true → 
 end_coding [] s e = rw e refl
 end_coding (x ∷ xs) s e =
     let any : list_any is_coding (x ∷ (xs ++ s ∷ [])) ≡ true = any_last (x ∷ xs) s true e ∙ or_true (list_any is_coding (x ∷ xs)) in
-    rw any (ap suc (end_coding xs s e))
+    let count : suc (length xs + 1) ≡ suc (length xs) + 1 = omega arith in
+    rw any (ap suc (end_coding xs s e) ∙ count)
 
 pub end_other : (xs : List Segment) (s : Segment) → is_coding s ≡ false → coding_end (xs ++ s ∷ []) ≡ coding_end xs
 end_other [] s e = rw e refl
 end_other (x ∷ xs) s e =
     let any : list_any is_coding (x ∷ (xs ++ s ∷ [])) ≡ list_any is_coding (x ∷ xs) = any_last (x ∷ xs) s false e ∙ or_no (list_any is_coding (x ∷ xs)) in
     rw any (ap (λ n. cond (list_any is_coding (x ∷ xs)) (suc n) 0) (end_other xs s e))
+
+-- and so of the segments below a place
+module _ (xs : List Segment) (i : ℕ) (s : Segment) (inside : i < length xs) (at : s ≡ get_or xs i s) where
+  grown : take (i + 1) xs ≡ take i xs ++ s ∷ []
+  grown = rw add-one (take-suc xs i s inside ∙ ap (λ (x : Segment). take i xs ++ x ∷ []) (sym at))
+
+  pub next_coding : is_coding s ≡ true → coding_end (take (i + 1) xs) ≡ i + 1
+  next_coding e =
+      let all : length (take i xs) ≡ i = length-take-le i xs (omega (arith, inside)) in
+      ap coding_end grown ∙ end_coding (take i xs) s e ∙ ap (λ (n : ℕ). n + 1) all
+
+  pub next_other : is_coding s ≡ false → coding_end (take (i + 1) xs) ≡ coding_end (take i xs)
+  next_other e = ap coding_end grown ∙ end_other (take i xs) s e
 
 -- ---- lists of entries
 pub same_none : (es fs : List Progression) → (length es ≡ length fs → ⊥) → same_entries es fs ≡ false

@@ -1,5 +1,5 @@
 -- The one entry of a tile that is written covers each of its packets.
-use Rattle.std.proofs.Common.{◌≡◌, ◌∙◌, ◌<◌, ℕ, true, arith, List, [], ◌∷◌, ◌++◌, length, refl, sym, ap, subst, Option, None, Some, inl, inr}
+use Rattle.std.proofs.Common.{◌≡◌, ◌∙◌, ◌<◌, ℕ, true, arith, List, [], ◌∷◌, ◌++◌, length, take, drop, refl, sym, ap, subst, Option, None, Some, inl, inr}
 use Rattle.std.specs.List.{All}
 use Rattle.std.specs.Option.{option_map, option_or}
 use Rattle.std.proofs.lemmas.Bool.{cases_Bool}
@@ -19,7 +19,7 @@ use Rattle.jx_codestream.specs.Shapes.{geometry, layers_of, no_tile, tile_at}
 use Rattle.jx_codestream.specs.declared.Tile.{Tile}
 use Rattle.jx_codestream.specs.InRange.{StreamInRange}
 use Rattle.jx_tile.specs.Covered.{IsWhole}
-use Rattle.jx_plan.specs.Changes.{MainOrder, coding_end, main_order}
+use Rattle.jx_plan.specs.Changes.{MainOrder, coding_end, main_order, poc_of, volumes_written}
 use Rattle.jx_plan.specs.Headers.{all_written, cod_written, is_written, main_written, stream_written, tile_header, written, HeaderOptions, MayBeInHeaders}
 use Rattle.jx_plan.specs.Fits.{first_zero}
 use Rattle.jx_plan.specs.Standing.{HeadersStand, IsHeaded, IsNote}
@@ -56,7 +56,10 @@ none_written a (s ∷ ss) e = elim (cases_Bool (is_written a.wanted.changes s)) 
 ]
 
 main_none : (a : HeaderOptions) (comps : ℕ) (main : List Segment) → a.wanted.changes ≡ Some [] → main_written a comps main ≡ all_written a main
-main_none a comps main e = rw e (cut_written a (coding_end main) main)
+main_none a comps main e =
+    let none : volumes_written comps a.wanted.changes ≡ [] = ap (λ (o : Option (List Progression)). volumes_written comps o) e in
+    ap (λ (es : List Progression). all_written a (take (coding_end main) main) ++ (poc_of es ++ all_written a (drop (coding_end main) main))) none
+    ∙ cut_written a (coding_end main) main
 
 header_none : (a : HeaderOptions) (comps : ℕ) (m : MainOrder) (t : Tile) → a.wanted.changes ≡ Some [] → tile_header a comps m t ≡ all_written a t.header ++ t.notes
 header_none a comps m t e = rw e refl

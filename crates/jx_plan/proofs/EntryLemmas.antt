@@ -143,6 +143,11 @@ tile_poc comps None m t e es h is =
     poc_fits comps e es each (few_bytes comps (length (e ∷ es)) few)
 
 -- volumes
+two_bytes : (comps n : ℕ) → 257 ≤ comps → n < 2 ^ 16 → n < 256 ^ index_size comps
+two_bytes comps n two small =
+    let no : nat_lt comps 257 ≡ false = grind (arith, nat_tests) in
+    rw no (omega (arith, small))
+
 end_fits : (comps cs ce : ℕ) → cs < comps → cs < ce → comps < 2 ^ 16 → (end_written comps ce < 256 ^ index_size comps) × ((end_written comps ce == 0 || nat_lt cs (end_written comps ce)) ≡ true)
 end_fits comps cs ce low above few = elim (cases_Bool (nat_lt ce comps)) [
   | inl less ↦ rw less (less_fits less, grind (arith, nat_tests))
@@ -157,16 +162,13 @@ end_fits comps cs ce low above few = elim (cases_Bool (nat_lt ce comps)) [
         let lt : ce < comps = grind (arith, nat_tests) in
         elim (cases_lt comps 257) [
           | inl one ↦ small_index comps ce (omega (arith, lt, one))
-          | inr two ↦ two_bytes ce (omega (arith, two)) (omega (arith, lt, few))
+          | inr two ↦ two_bytes comps ce (omega (arith, two)) (omega (arith, lt, few))
         ]
-
-    two_bytes : (n : ℕ) → 257 ≤ comps → n < 2 ^ 16 → n < 256 ^ index_size comps
-    two_bytes n two small = let no : nat_lt comps 257 ≡ false = grind (arith, nat_tests) in rw no (omega (arith, small))
 
     comps_fit : (comps == 256 || comps == 16384) ≡ false → comps < 256 ^ index_size comps
     comps_fit other = elim (cases_lt comps 257) [
       | inl one ↦ (let apart : comps < 256 = grind (arith, nat_tests) in small_index comps comps apart)
-      | inr two ↦ two_bytes comps two few
+      | inr two ↦ two_bytes comps comps two few
     ]
 
 volume_passes : (rs re lye order : ℕ) (b : Bool) → rs < re → 1 ≤ lye → IsOrderNumber order → b ≡ true → (nat_lt rs re && (b && (nat_lt 0 lye && is_order order))) ≡ true

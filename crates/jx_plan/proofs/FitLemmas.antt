@@ -32,7 +32,8 @@ use Rattle.jx_plan.specs.declared.faults.Misfit.{Misfit}
 use Rattle.jx_plan.specs.Fits.{CompKeeps, Fits, IsChangedFrom, IsMisfitAt, IsMisfitIn, IsSameAt, KeepsBlocks, has_zero, shape_has_zero, tile_has_zero}
 use Rattle.jx_plan.specs.Headers.{bytes_for, comp_written, item_at}
 use Rattle.jx_plan.specs.Standing.{HeadersStand, IsHeaded}
-use Rattle.jx_plan.specs.Steps.{IsKnown, is_coding}
+use Rattle.jx_plan.specs.Changes.{is_coding}
+use Rattle.jx_plan.specs.Steps.{IsKnown}
 use Rattle.jx_codestream.proofs.BareLemmas.{map_same}
 
 -- ---- bytes

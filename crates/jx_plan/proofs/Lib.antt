@@ -28,6 +28,7 @@ mod ViewLemmas
 mod PlainLemmas
 mod LayerLaws
 pub mod PlanLemmas
+mod StrayLemmas
 mod TileJobLemmas
 mod BlocksWritten
 mod MeaningLemmas

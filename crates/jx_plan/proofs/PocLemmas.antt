@@ -11,7 +11,7 @@ use Rattle.jx_marker.specs.declared.Segment.{Segment}
 use Rattle.jx_marker.specs.declared.Segment.TheVariants as segment
 use Rattle.jx_marker.specs.Ranges.{InRange, PocInRange}
 use Rattle.jx_codestream.specs.declared.headers.HeaderKind.{HeaderKind}
-use Rattle.jx_codestream.specs.declared.headers.HeaderKind.TheVariants.{Main, First}
+use Rattle.jx_codestream.specs.declared.headers.HeaderKind.TheVariants.{Main, First, Later, PackedFirst, PackedLater}
 use Rattle.jx_codestream.specs.Headers.{slot_of, has_slot, is_second, stands_in, ends_header, is_beside_ppm, is_ppt}
 use Rattle.jx_codestream.specs.Spells.{IsSegment, AreSegments}
 use Rattle.jx_plan.specs.Changes.{coding_end, is_poc, poc_of, put_entries, volumes_written, with_entries}
@@ -77,7 +77,7 @@ poc_segment : (kind : HeaderKind) (comps : ℕ) (before : List Segment) (es : Li
 poc_segment kind comps before es stands plain none range = record { range = range; stands = stands; once_packed = rw plain refl; inside = refl; once = none }
 
 -- ---- the main header
-written_app : (a : HeaderOptions) (xs ys : List Segment) → all_written a (xs ++ ys) ≡ all_written a xs ++ all_written a ys
+pub written_app : (a : HeaderOptions) (xs ys : List Segment) → all_written a (xs ++ ys) ≡ all_written a xs ++ all_written a ys
 written_app a [] ys = refl
 written_app a (x ∷ xs) ys = elim (cases_Bool (is_written a.wanted.changes x)) [
   | inl t ↦ rw t (ap (λ (zs : List Segment). written a x ∷ zs) (written_app a xs ys))
@@ -116,26 +116,26 @@ pub main_stands : (a : HeaderOptions) (comps : ℕ) (main : List Segment)
 main_stands a comps main fit are =
     by (volumes_written comps a.wanted.changes) refl (subst (λ (xs : List Segment). AreSegments Main comps [] xs) (sym (cut_written a (coding_end main) main)) are)
   where
-    abbrev F : List Segment
-    F = all_written a (take (coding_end main) main)
-
-    abbrev B : List Segment
-    B = all_written a (drop (coding_end main) main)
-
     some : (o : Option (List Progression)) (e : Progression) (es : List Progression) → volumes_written comps o ≡ e ∷ es → (entries : List Progression) × (o ≡ Some entries)
     some None e es is = absurd (cc)
     some (Some entries) e es is = (entries, refl)
 
-    by : (put : List Progression) → volumes_written comps a.wanted.changes ≡ put → AreSegments Main comps [] (F ++ B) → AreSegments Main comps [] (F ++ (poc_of put ++ B))
+    by : (put : List Progression) → volumes_written comps a.wanted.changes ≡ put
+        → AreSegments Main comps [] (all_written a (take (coding_end main) main) ++ all_written a (drop (coding_end main) main))
+        → AreSegments Main comps [] (all_written a (take (coding_end main) main) ++ (poc_of put ++ all_written a (drop (coding_end main) main)))
     by [] is h = h
     by (e ∷ es) is h =
         let asked = some a.wanted.changes e es is in
-        with_put Main comps F B (e ∷ es) refl refl (asked_none a asked.0 (take (coding_end main) main) asked.1) (asked_none a asked.0 (drop (coding_end main) main) asked.1)
+        with_put Main comps (all_written a (take (coding_end main) main)) (all_written a (drop (coding_end main) main)) (e ∷ es) refl refl (asked_none a asked.0 (take (coding_end main) main) asked.1) (asked_none a asked.0 (drop (coding_end main) main) asked.1)
         (fit e es is) h
 
 -- ---- a tile's header
 stands_put : (kind : HeaderKind) (es : List Progression) (s : Segment) → stands_in kind (put_entries es s) ≡ stands_in kind s
-stands_put kind es (segment.Poc own) = refl
+stands_put Main es (segment.Poc own) = refl
+stands_put First es (segment.Poc own) = refl
+stands_put Later es (segment.Poc own) = refl
+stands_put PackedFirst es (segment.Poc own) = refl
+stands_put PackedLater es (segment.Poc own) = refl
 stands_put kind es _ = refl
 
 ppt_put : (es : List Progression) (s : Segment) → is_ppt (put_entries es s) ≡ is_ppt s

@@ -18,7 +18,7 @@ use Rattle.jx_codestream.specs.Headers.{slot_of, has_slot}
 use Rattle.jx_codestream.specs.Index.{gives}
 use Rattle.jx_codestream.specs.Tiles.{in_slot}
 use Rattle.jx_codestream.specs.Params.{cod_in, shape_in}
-use Rattle.jx_plan.specs.Changes.{main_order}
+use Rattle.jx_plan.specs.Changes.{MainOrder, main_order}
 use Rattle.jx_plan.specs.Headers.{HeaderOptions, all_written, cod_written, is_written, item_at, main_written, rsiz_written, stream_written, tile_written, written}
 use Rattle.jx_plan.specs.Asides.{IsAside, is_aside}
 use Rattle.jx_plan.proofs.AlikeLemmas.{AreAlike, none_asked}
@@ -121,3 +121,8 @@ stream_is a s siz main tiles e f g =
     ∙ ap (λ (x : List Tile). let y : Stream = record { siz = record s.siz { rsiz = rsiz_written a.wanted.rsiz s.siz.rsiz }; main = main; tiles = x } in y) g
     ∙ ap (λ (x : List Segment). let y : Stream = record { siz = record s.siz { rsiz = rsiz_written a.wanted.rsiz s.siz.rsiz }; main = x;
     tiles = map (tile_written a (length s.siz.comps) (main_order s.main) (main_order x)) s.tiles } in y) f
+
+-- tiles with their orders
+pub tiles_same : (a : HeaderOptions) (comps : ℕ) (m n read made : MainOrder) (xs ys : List Tile) → m ≡ read → n ≡ made → xs ≡ ys
+    → map (tile_written a comps m n) xs ≡ map (tile_written a comps read made) ys
+tiles_same a comps m n read made xs ys e h k = rw (e, h, k) refl

@@ -116,26 +116,37 @@ levels_in _ = 0
 abbrev pub main_levels : Stream → ℕ
 main_levels s = levels_in (in_slot cod_slot s.main)
 
--- 10: the order CPRL and no POC; or POC in the main header, of the two volumes, and no other
+-- 10 of 4K: POC in the main header, of the two volumes, and no other
+abbrev pub has_volumes : Stream → Bool
+has_volumes s = list_any is_poc s.main && (not (list_any is_poc (header_of s 0)) && all_meet (demand.Volumes (main_levels s)) s)
+
+-- 10: the order CPRL and no POC, or for 4K these volumes
 abbrev pub is_ordered : Cinema → Stream → Bool
 is_ordered cinema.TwoK s = all_meet demand.Order s
-is_ordered cinema.FourK s = list_any is_poc s.main && (not (list_any is_poc (header_of s 0)) && all_meet (demand.Volumes (main_levels s)) s)
+is_ordered cinema.FourK s = has_volumes s
 
 -- 12: at most five levels, or one to six, the same for each component
 abbrev pub has_levels : Cinema → ℕ → Bool
 has_levels cinema.TwoK levels = nat_le levels 5
 has_levels cinema.FourK levels = nat_le 1 levels && nat_le levels 6
 
+abbrev pub levels_meet : Cinema → Stream → Bool
+levels_meet k s = has_levels k (main_levels s) && all_meet (demand.Levels (main_levels s)) s
+
+-- 14: one guard bit, or two
 abbrev pub guard_bits : Cinema → ℕ
 guard_bits cinema.TwoK = 1
 guard_bits cinema.FourK = 2
+
+abbrev pub guards_meet : Cinema → Stream → Bool
+guards_meet k s = all_meet (demand.Guard (guard_bits k)) s
 
 -- the conditions of profile 3 or 4 in their order, 1 to 16; 17, that no packet header stands apart (PPM, PPT: A.7.4, A.7.5), holds of every written file
 unfoldable pub conditions : Cinema → Marks → Stream → List Bool
 conditions k m s =
     is_small k s.siz ∷ has_no_offset s.siz ∷ (tile_number s.siz == 1) ∷ are_full s.siz.comps ∷ all_meet demand.Region s ∷ not (list_any is_parameter (header_of s 0))
     ∷ all_meet demand.Blocks s ∷ all_meet demand.Style s ∷ all_meet demand.Precincts s ∷ is_ordered k s ∷ all_meet demand.Layers s
-    ∷ (has_levels k (main_levels s) && all_meet (demand.Levels (main_levels s)) s) ∷ all_meet demand.Wavelet s ∷ all_meet (demand.Guard (guard_bits k)) s
+    ∷ levels_meet k s ∷ all_meet demand.Wavelet s ∷ guards_meet k s
     ∷ by_component m.parts ∷ m.tlm ∷ []
 
 -- the number of the first that fails, from a number on

@@ -62,7 +62,7 @@ fn entries_joined(alloc: Global, segments: &[Segment]) -> Result<Vec<Progression
     Ok(entries)
 }
 
-fn is_cod(segment: &Segment) -> bool
+pub(crate) fn is_cod(segment: &Segment) -> bool
     ensures { result ≡ (slot_of segment.now == 1) }
 {
     matches!(segment, Segment::Cod(_))
@@ -150,12 +150,18 @@ fn has_comp(comps: u16, entry: Progression) -> bool
     entry.cs < comps
 }
 
+fn some_outside(comps: u16, entries: &[Progression]) -> bool
+    ensures { result ≡ has_outside comps (Some entries.now) }
+{
+    entries.iter().any(|entry| !has_comp(comps, *entry))
+}
+
 /// Whether some volume begins above the components.
 pub(crate) fn has_outside(comps: u16, poc: &PocChoice) -> bool
     ensures { result ≡ has_outside comps (changes_in poc.now) }
 {
     match poc.entries() {
-        Some(entries) => entries.iter().any(|entry| !has_comp(comps, *entry)),
+        Some(entries) => some_outside(comps, entries),
         None => false,
     }
 }

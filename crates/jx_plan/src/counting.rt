@@ -23,8 +23,8 @@ use jx_options::{Marks, Options};
 use jx_tile::count_all;
 use std::alloc::Global;
 
-/// The packets of a stream, one for each precinct and layer (ITU-T T.800, B.9): what limit 7 speaks of where the stream is
-/// the one that is written. Time follows the tiles and their components.
+/// The packets of a stream, one for each precinct and layer (ITU-T T.800, B.9): what limit 7 speaks of where the
+/// stream is the one that is written. Time follows the tiles and their components.
 ///
 /// # Errors
 ///
@@ -104,8 +104,8 @@ pub(crate) fn check_parts(
     }
 }
 
-/// Whether TLM, where it is asked, can name all tile-parts of headers that are written: it has 256 segments of 10,921 entries (ITU-T
-/// T.800, A.7.1).
+/// Whether TLM, where it is asked, can name all tile-parts of headers that are written: it has 256 segments of 10,921
+/// entries (ITU-T T.800, A.7.1).
 ///
 /// # Errors
 ///
@@ -126,12 +126,13 @@ pub(crate) fn check_entries(written: &Stream, marks: Marks, all: usize) -> Resul
     Ok(())
 }
 
-/// Whether the headers that are written can have what is asked of tile-parts, of TLM and of the profile that is claimed.
+/// Whether the headers that are written can have what is asked of tile-parts, of TLM and of the profile that is
+/// claimed.
 ///
 /// # Errors
 ///
-/// Choice 5 as `check_parts` says, else choice 10 as `check_entries` says, else choice 11 as `check_profile` says. `NoMemory` where
-/// memory is refused.
+/// Choice 5 as `check_parts` says, else choice 10 as `check_entries` says, else choice 11 as `check_profile` says.
+/// `NoMemory` where memory is refused.
 pub(crate) fn check_written(
     alloc: Global,
     stream: &Stream,

@@ -14,7 +14,8 @@ ghost use Rattle.jx_options.specs.Choices.{bytes_in};
 ghost use Rattle.jx_plan.specs.Fits.{AreUnfit, CompKeeps, Fits, IsChangedAt, IsChangedFrom, IsMisfitAt, IsMisfitIn, IsSameAt, KeepsBlocks, first_zero, has_zero, shape_has_zero, tile_has_zero};
 ghost use Rattle.jx_plan.specs.Headers.{bytes_for, comp_written, item_at};
 ghost use Rattle.jx_plan.specs.Standing.{HeadersStand};
-ghost use Rattle.jx_plan.specs.Steps.{IsKnown, is_coding};
+ghost use Rattle.jx_plan.specs.Changes.{is_coding};
+ghost use Rattle.jx_plan.specs.Steps.{IsKnown};
 
 use crate::{Misfit, PlanFault};
 use jx_base::NoMemory;

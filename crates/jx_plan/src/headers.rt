@@ -2,9 +2,9 @@
 
 ghost use Rattle.std.specs.Prelude.{◌≡◌, ◌++◌, ◌+◌, ◌<◌, IfOk, OnOk, length, map};
 ghost use Rattle.std.specs.List.{range_with_len};
-ghost use Rattle.jx_plan.specs.Changes.{main_order};
+ghost use Rattle.jx_plan.specs.Changes.{keeps_changes, main_order};
 ghost use Rattle.jx_plan.specs.Headers.{all_written, bytes_for, cod_written, is_written, item_at, main_written, order_written, precincts_written, rsiz_written, shape_written, stream_written, style_written, tile_header, tile_written, with_layers, written};
-ghost use Rattle.jx_options.specs.Choices.{changes_in, lent};
+ghost use Rattle.jx_options.specs.Choices.{lent};
 
 use crate::changes::{MainOrder, coding_end, push_volumes};
 use crate::own_entries::{poc_kept, tile_entries, with_entries};
@@ -14,13 +14,20 @@ use jx_marker::{Bytes, Cod, Segment, Shape, Siz};
 use jx_options::{Options, PocChoice, RsizChoice};
 use std::alloc::Global;
 
-/// The segment is written: packet and tile-part lengths, packed packet headers and skipped markers aren't, nor is POC where the input's
-/// isn't kept.
-fn is_written(segment: &Segment, poc: &PocChoice) -> bool
-    ensures { result ≡ is_written (changes_in poc.now) segment.now }
+/// The progression changes of the input are kept.
+fn keeps_changes(options: &Options) -> bool
+    ensures { result ≡ keeps_changes options.now.changes }
+{
+    matches!(options.poc, PocChoice::Keep)
+}
+
+/// The segment is written: packet and tile-part lengths, packed packet headers and skipped markers aren't, nor is POC
+/// where the input's isn't kept.
+fn is_written(segment: &Segment, options: &Options) -> bool
+    ensures { result ≡ is_written options.now.changes segment.now }
 {
     match segment {
-        Segment::Poc(_) => matches!(poc, PocChoice::Keep),
+        Segment::Poc(_) => keeps_changes(options),
         Segment::Plt(_)
         | Segment::Plm(_)
         | Segment::Tlm(_)
@@ -154,7 +161,7 @@ fn push_written(
     ensures { OnOk result (into.new.items ≡ into.old.items ++ all_written (with_layers options.now layers) segments.now) }
 {
     for segment in segments {
-        if is_written(segment, &options.poc) {
+        if is_written(segment, options) {
             let copy = copy_segment(alloc, segment, options, layers)?;
             into.push(copy)?;
         }
@@ -191,7 +198,8 @@ fn write_main(
     Ok(list)
 }
 
-/// The header of a tile's first tile-part: with its own entries where they are kept, and the COM segments of all its headers.
+/// The header of a tile's first tile-part: with its own entries where they are kept, and the COM segments of all its
+/// headers.
 fn write_header(
     alloc: Global,
     tile: &Tile,
@@ -288,11 +296,12 @@ fn write_siz(siz: &Siz, asked: RsizChoice) -> Result<Siz, NoMemory>
     Ok(copy)
 }
 
-/// The headers of the file that is written as the options ask, with so many layers in each tile, at least 1, as a stream without
-/// tile data: Rsiz is 0 or kept, as asked; PLT, PLM, TLM, PPM, PPT and skipped markers are left out; POC is left out, or stands in the
-/// main header with the volumes that are asked, or is kept, in one segment for each tile; each COD has SOP, EPH, order and layers as asked,
-/// and each COD and COC the precincts and the style; a tile's first header takes the COM segments of its later ones; all else is
-/// kept. Time and memory follow the bytes of the headers, the precincts that are written and the number of tiles.
+/// The headers of the file that is written as the options ask, with so many layers in each tile, at least 1, as a
+/// stream without tile data: Rsiz is 0 or kept, as asked; PLT, PLM, TLM, PPM, PPT and skipped markers are left out;
+/// POC is left out, or stands in the main header with the volumes that are asked, or is kept, in one segment for each
+/// tile; each COD has SOP, EPH, order and layers as asked, and each COD and COC the precincts and the style; a tile's
+/// first header takes the COM segments of its later ones; all else is kept. Time and memory follow the bytes of the
+/// headers, the precincts that are written and the number of tiles.
 ///
 /// # Errors
 ///

@@ -1,4 +1,5 @@
-//! Laws over what is planned: the headers that are written, and the plans. The functions do nothing: their contracts carry the laws.
+//! Laws over what is planned: the headers that are written, and the plans. The functions do nothing: their contracts
+//! carry the laws.
 
 ghost use Rattle.std.specs.Prelude.{◌≡◌, ◌≤◌, ◌<◌, ◌^◌, ◌++◌, ◌⊎◌, ℕ, List, [], None, Some, false, find, length, map, Option};
 ghost use Rattle.std.specs.List.{All, filter, list_any};
@@ -49,9 +50,9 @@ pub fn read_headers_stand()
     ensures { (b : List ℕ) (s : Stream) → IsRead b s → HeadersStand s }
 {}
 
-/// What is written of headers that stand in a file stands in one too, with 1 to 65,535 layers, precincts that give no exponent 0
-/// above resolution 0 and a style of six bits: none of the rules 1 to 19 is violated (T.800, A.3 to A.9), and none of the limits 3
-/// and 4 is passed.
+/// What is written of headers that stand in a file stands in one too, with 1 to 65,535 layers, precincts that give no
+/// exponent 0 above resolution 0 and a style of six bits: none of the rules 1 to 19 is violated (T.800, A.3 to A.9),
+/// and none of the limits 3 and 4 is passed.
 pub fn written_headers_stand()
     ensures { (a : HeaderOptions) (s : Stream) → MayBeInHeaders a → first_zero a.wanted.precincts s ≡ None → HeadersStand s → HeadersStand (stream_written a s) }
 {}
@@ -61,7 +62,8 @@ pub fn written_is_in_range()
     ensures { (a : HeaderOptions) (s : Stream) → MayBeInHeaders a → first_zero a.wanted.precincts s ≡ None → HeadersStand s → StreamInRange s → StreamInRange (stream_written a s) }
 {}
 
-/// The stream that is written has the parameters of its stream, but for the order, the layers, the precincts and the style (T.800, A.6).
+/// The stream that is written has the parameters of its stream, but for the order, the layers, the precincts and the
+/// style (T.800, A.6).
 pub fn parameters_stay()
     ensures params { (a : HeaderOptions) (s : Stream) (t c : ℕ) → HeadersStand s → params_of (stream_written a s) t c ≡ params_written a (params_of s t c) }
     ensures steps { (a : HeaderOptions) (s : Stream) (t c r : ℕ) (band : Band) → HeadersStand s → step_of (stream_written a s) t c r band ≡ step_of s t c r band }
@@ -73,12 +75,14 @@ pub fn parameters_stay()
     ensures tiles { (a : HeaderOptions) (s : Stream) → tile_number (stream_written a s).siz ≡ tile_number s.siz }
 {}
 
-/// A stream whose precincts are kept has them: none gives an exponent 0 above resolution 0, and its code-blocks stay (T.800, A.6.1 and B.7).
+/// A stream whose precincts are kept has them: none gives an exponent 0 above resolution 0, and its code-blocks stay
+/// (T.800, A.6.1 and B.7).
 pub fn kept_precincts_fit()
     ensures { (s : Stream) → HeadersStand s → Fits None s }
 {}
 
-/// COM and PLT segments may follow in the header of a tile's first tile-part, and stand alone in that of a later one (T.800, A.3).
+/// COM and PLT segments may follow in the header of a tile's first tile-part, and stand alone in that of a later one
+/// (T.800, A.3).
 pub fn asides_may_follow()
     ensures first { (comps : ℕ) (own more : List Segment) → AreSegments First comps [] own → All (IsAside comps) more → AreSegments First comps [] (own ++ more) }
     ensures later { (comps : ℕ) (more : List Segment) → All (IsAside comps) more → AreSegments Later comps [] more }
@@ -91,8 +95,8 @@ pub fn asides_give_nothing()
     ensures planes { (comps : ℕ) (own more main : List Segment) (c r : ℕ) (band : Band) → All (IsAside comps) more → planes_by (own ++ more) main c r band ≡ planes_by own main c r band }
 {}
 
-/// So a stream with such segments more in its tiles' headers has the same view, and violates rule 9 and passes limit 4 no more than
-/// the stream without them.
+/// So a stream with such segments more in its tiles' headers has the same view, and violates rule 9 and passes limit
+/// 4 no more than the stream without them.
 pub fn view_stays_with_more()
     ensures params { (s other : Stream) (t c : ℕ) → IsWithMore s other → params_of other t c ≡ params_of s t c }
     ensures steps { (s other : Stream) (t c r : ℕ) (band : Band) → IsWithMore s other → step_of other t c r band ≡ step_of s t c r band }
@@ -107,17 +111,18 @@ pub fn view_stays_with_more()
         → planes_fault other.main (length other.siz.comps) other.tiles ≡ planes_fault s.main (length s.siz.comps) s.tiles }
 {}
 
-/// The stream that is written has the code-blocks of its stream, where it can have the precincts that are asked, its style isn't changed,
-/// and no tile has fewer layers than it had (T.800, B.7). So has one with COM and PLT segments more.
+/// The stream that is written has the code-blocks of its stream, where it can have the precincts that are asked, its
+/// style isn't changed, and no tile has fewer layers than it had (T.800, B.7). So has one with COM and PLT segments
+/// more.
 pub fn blocks_stay()
     ensures written { (a : HeaderOptions) (s : Stream) → a.wanted.style ≡ None → Fits a.wanted.precincts s → HeadersStand s → ((t : ℕ) → t < tile_number s.siz → layers_of s t ≤ a.layers) → HaveSameBlocks s (stream_written a s) }
     ensures more { (s other : Stream) → IsWithMore s other → HaveSameBlocks s other }
     ensures through { (s between other : Stream) → HaveSameBlocks s between → HaveSameBlocks between other → HaveSameBlocks s other }
 {}
 
-/// The code-blocks of a stream as they are written by a rule are those of the headers that are written, where each of them may be asked
-/// for its style and is right, and no layer has too many passes of one; and they are sound. The rule that keeps leaves them as they are
-/// where no style is asked.
+/// The code-blocks of a stream as they are written by a rule are those of the headers that are written, where each of
+/// them may be asked for its style and is right, and no layer has too many passes of one; and they are sound. The
+/// rule that keeps leaves them as they are where no style is asked.
 pub fn written_blocks_stand()
     ensures blocks { (w : Wanted) (r : Rule) (s : Stream) (blocks : List Block) → 1 ≤ layers_of_rule r s blocks → Fits w.precincts s → HeadersStand s
         → AreBlocksOf s blocks → All IsSound blocks → first_broken w.style blocks ≡ None → All (λ (b : Block). is_wrong w.style b ≡ false) blocks → IsCrowded r s blocks None
@@ -133,8 +138,8 @@ pub fn written_blocks_stand()
     crowds_are_told();
 }
 
-/// What is written means what was read: the canvas, the components, how they are transformed and quantized, and each coefficient with its
-/// decoded planes (T.800, A.5, A.6, D and E). So does a stream with COM and PLT segments more.
+/// What is written means what was read: the canvas, the components, how they are transformed and quantized, and each
+/// coefficient with its decoded planes (T.800, A.5, A.6, D and E). So does a stream with COM and PLT segments more.
 pub fn meaning_stays()
     ensures written { (w : Wanted) (r : Rule) (s : Stream) (blocks : List Block) → 1 ≤ layers_of_rule r s blocks → HeadersStand s → All IsSound blocks → first_broken w.style blocks ≡ None
         → meaning_of (headers_with w (layers_of_rule r s blocks) s) (blocks_written w r s blocks) ≡ meaning_of s blocks }
@@ -153,7 +158,8 @@ pub fn plans_write_these_blocks()
     crowds_are_told();
 }
 
-/// Where no progression changes are written, the one entry of a tile covers each of its packets (T.800, A.6.6 and B.12).
+/// Where no progression changes are written, the one entry of a tile covers each of its packets (T.800, A.6.6 and
+/// B.12).
 pub fn written_is_covered()
     ensures written { (a : HeaderOptions) (s : Stream) (t : ℕ) → MayBeInHeaders a → a.wanted.changes ≡ Some [] → first_zero a.wanted.precincts s ≡ None → HeadersStand s → StreamInRange s → t < tile_number s.siz
         → IsWhole (stream_written a s) t }
@@ -167,8 +173,9 @@ pub fn totals_stay_with_more()
     ensures limits { (s other : Stream) → IsWithMore s other → totals_fault other ≡ totals_fault s }
 {}
 
-/// What is written is read back: where a tile's tile-parts have its headers, they make the tile that is written, but for its place, its
-/// data and the segments that follow in its header; and the stream of such tiles is the one that is written, with these segments more.
+/// What is written is read back: where a tile's tile-parts have its headers, they make the tile that is written, but
+/// for its place, its data and the segments that follow in its header; and the stream of such tiles is the one that
+/// is written, with these segments more.
 pub fn written_is_read_back()
     ensures tile { (a : HeaderOptions) (comps : ℕ) (main : List Segment) (m : MainOrder) (t : Tile) (own : List PlacedPart) → HaveHeaders a comps m t own
         → IsTileWithMore comps (tile_written a comps m (main_order (main_written a comps main)) t) (tile_from (main_written a comps main) own) }
@@ -177,11 +184,10 @@ pub fn written_is_read_back()
         → ((t : ℕ) → t < tile_number s.siz → HaveHeaders a (length s.siz.comps) (main_order s.main) (tile_at s t) (parts_of t parts)) → IsWithMore (stream_written a s) other }
 {}
 
-/// No TLM, PLM, PLT, PPM, PPT or skipped marker is written, and the main header has its CRG and COM segments in their order (T.800, A.7
-/// and A.9);
-/// the packets of a tile stand in the order that the written headers say, as a reader takes them, and its COD has the marks, the order, the layers, the
-/// precincts and the style that are asked (T.800, A.6.1 and A.6.6); and where its precincts fit, the limits 5 and 6 are those on its
-/// packets alone.
+/// No TLM, PLM, PLT, PPM, PPT or skipped marker is written, and the main header has its CRG and COM segments in their
+/// order (T.800, A.7 and A.9); the packets of a tile stand in the order that the written headers say, as a reader
+/// takes them, and its COD has the marks, the order, the layers, the precincts and the style that are asked (T.800,
+/// A.6.1 and A.6.6); and where its precincts fit, the limits 5 and 6 are those on its packets alone.
 pub fn written_headers_are_plain()
     ensures header { (a : HeaderOptions) (s : Stream) (t : ℕ) → HeadersStand s → MayBeInHeaders a → first_zero a.wanted.precincts s ≡ None → t < length s.tiles
         → AreSegments First (length s.siz.comps) [] (header_of (stream_written a s) t) }
@@ -202,8 +208,8 @@ pub fn gathered_may_be_planned()
     ensures { (b : List ℕ) (s : Stream) (blocks : List Block) → IsRead b s → length b ≤ most_bytes → totals_fault s ≡ None → IsGathered b s blocks → MayBePlanned s blocks }
 {}
 
-/// By a rule a stream has one answer, but for want of memory: nothing is in the way of its plan, or there is one cause for which nothing is
-/// planned.
+/// By a rule a stream has one answer, but for want of memory: nothing is in the way of its plan, or there is one
+/// cause for which nothing is planned.
 pub fn one_answer()
     ensures planned { (s : Stream) (blocks : List Block) (w : Wanted) (o : Option Rule) (p : Plan) (e : PlanFault) → IsPlan p → IsPlanned o s blocks w p → HasPlanCause o s blocks w e
         → e ≡ plan_fault.NoMemory }

@@ -191,23 +191,24 @@ fn first_serving(planners: &[Box<dyn LayerPlanner>], words: &str) -> Option<usiz
     None
 }
 
-/// Plans a codestream as the options ask: with the marks that they name, and the layers that the first planner makes that serves
-/// their words. It is asked once for each coding pass, in the order of blocks and passes, before limit 7 or choice 4 is answered; no
-/// other planner begins or is asked.
+/// Plans a codestream as the options ask: with the marks that they name, and the layers that the first planner makes
+/// that serves their words. It is asked once for each coding pass, in the order of blocks and passes, before limit 7
+/// or choice 4 is answered; no other planner begins or is asked.
 ///
 /// # Errors
 ///
-/// Choice 1 exactly where a style is asked with another causal bit than that of a code-block whose passes end within a plane (ITU-T
-/// T.800, D.7), at the lowest such block. Else choices 3 and 2 exactly as `check_precincts` says. Else choice 6 at 0 exactly where
-/// no planner serves the words, or the first that does makes no rule of them; after these nothing was asked. Else limit 7 exactly
-/// where over 2^22 packets would be written, one for each precinct and layer (B.9), with their number. Else choice 12 exactly where a volume
-/// that is asked begins above the components, at 0, or some packet of a tile would be in no volume, or a tile's own entries that are
-/// kept pass what a POC segment holds (A.6.6), at the lowest such tile. Else choice 4 exactly where
-/// some layer would have over 164 passes of a code-block (B.10.6, Table B.4), at the lowest such block. Else choice 5 exactly where
-/// a tile would have over 255 tile-parts (A.4.2), at the lowest such tile. Else choice 10 at 0 exactly where TLM is asked and there would
-/// be over 2,795,776 tile-parts (A.7.1). Else choice 11 exactly where the input's profile is kept and the file wouldn't have all of it
-/// (A.5.1), at the number of the first condition of profile 3 or 4 that fails (`first_unmet`), or at 0 where the profile is another than 0,
-/// 3 and 4. `NoMemory` where memory is refused.
+/// Choice 1 exactly where a style is asked with another causal bit than that of a code-block whose passes end within
+/// a plane (ITU-T T.800, D.7), at the lowest such block. Else choices 3 and 2 exactly as `check_precincts` says. Else
+/// choice 6 at 0 exactly where no planner serves the words, or the first that does makes no rule of them; after these
+/// nothing was asked. Else limit 7 exactly where over 2^22 packets would be written, one for each precinct and layer
+/// (B.9), with their number. Else choice 12 exactly where a volume that is asked begins above the components, at 0,
+/// or some packet of a tile would be in no volume, or a tile's own entries that are kept pass what a POC segment
+/// holds (A.6.6), at the lowest such tile. Else choice 4 exactly where some layer would have over 164 passes of a
+/// code-block (B.10.6, Table B.4), at the lowest such block. Else choice 5 exactly where a tile would have over 255
+/// tile-parts (A.4.2), at the lowest such tile. Else choice 10 at 0 exactly where TLM is asked and there would be
+/// over 2,795,776 tile-parts (A.7.1). Else choice 11 exactly where the input's profile is kept and the file wouldn't
+/// have all of it (A.5.1), at the number of the first condition of profile 3 or 4 that fails (`first_unmet`), or at 0
+/// where the profile is another than 0, 3 and 4. `NoMemory` where memory is refused.
 pub fn plan_served<'a>(
     alloc: Global,
     stream: &'a Stream,

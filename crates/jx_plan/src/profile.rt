@@ -1,12 +1,17 @@
 //! What profile a written file may claim (ITU-T T.800, A.5.1, Table A.10).
 
-ghost use Rattle.std.specs.Prelude.{◌≡◌, ◌≤◌, ◌+◌, ◌==◌, ◌&&◌, length, IfErr, None, OnOk};
+ghost use Rattle.std.specs.Prelude.{◌≡◌, ◌≤◌, ◌+◌, ◌==◌, length, IfErr, None, OnOk, Some};
 ghost use Rattle.std.specs.List.{list_all, list_any};
+ghost use Rattle.jx_codestream.specs.Headers.{cod_slot};
 ghost use Rattle.jx_codestream.specs.InRange.{StreamInRange};
-ghost use Rattle.jx_plan.specs.Profile.{all_meet, are_full, are_squares, by_component, are_volumes, changes_meet, cod_meets, first_failed, first_unmet, guard_bits, guard_meets, has_levels, has_no_offset, is_full, is_ordered, is_parameter, is_small, is_volume, lacks_region, main_levels, meets, shape_meets, unclaimed};
+ghost use Rattle.jx_codestream.specs.Params.{header_of};
+ghost use Rattle.jx_codestream.specs.Tiles.{in_slot};
+ghost use Rattle.jx_plan.specs.Changes.{is_poc};
+ghost use Rattle.jx_plan.specs.Profile.{all_meet, are_full, are_squares, are_volumes, by_component, changes_meet, cod_meets, first_failed, first_unmet, guard_bits, guard_meets, guards_meet, has_levels, has_no_offset, has_volumes, is_full, is_ordered, is_parameter, is_small, is_volume, lacks_region, levels_in, levels_meet, main_levels, meets, shape_meets, unclaimed};
 ghost use Rattle.jx_plan.specs.Steps.{IsUnmet};
 
 use crate::PlanFault;
+use crate::changes::is_cod;
 use crate::own_entries::has_poc;
 use jx_codestream::Stream;
 use jx_marker::{Cod, CompSize, Progression, Segment, Shape, Siz};
@@ -231,30 +236,62 @@ fn first_failed(number: u32, met: &[bool]) -> Option<u32>
     }
 }
 
-/// The levels of a main header's COD.
-fn main_levels(stream: &Stream) -> u8
-    ensures { result ≡ main_levels stream.now }
+/// The levels of a COD.
+fn levels_of(segment: &Segment) -> u8
+    ensures { result ≡ levels_in (Some segment.now) }
 {
-    for segment in stream.main.as_slice() {
-        if let Segment::Cod(cod) = segment {
-            return cod.shape.levels;
+    match segment {
+        Segment::Cod(cod) => cod.shape.levels,
+        _ => 0,
+    }
+}
+
+/// The levels of the first COD.
+fn levels_among(segments: &[Segment]) -> u8
+    ensures { result ≡ levels_in (in_slot cod_slot segments.now) }
+{
+    for segment in segments {
+        if is_cod(segment) {
+            return levels_of(segment);
         }
     }
     0
 }
 
-/// The order of packets is that of a profile, in a picture of so many levels.
-fn is_ordered(stream: &Stream, cinema: Cinema, levels: u8) -> bool
-    requires { levels ≡ main_levels stream.now }
+/// The levels of a main header's COD.
+fn main_levels(stream: &Stream) -> u8
+    ensures { result ≡ main_levels stream.now }
+{
+    levels_among(stream.main.as_slice())
+}
+
+fn main_has_poc(stream: &Stream) -> bool
+    ensures { result ≡ list_any is_poc stream.now.main }
+{
+    has_poc(stream.main.as_slice())
+}
+
+fn tile_has_poc(stream: &Stream) -> bool
+    ensures { result ≡ list_any is_poc (header_of stream.now 0) }
+{
+    has_poc(stream.header(0))
+}
+
+/// POC stands in the main header alone, with the two volumes of a picture of its levels.
+fn has_volumes(stream: &Stream) -> bool
+    ensures { result ≡ has_volumes stream.now }
+{
+    let levels = main_levels(stream);
+    main_has_poc(stream) && !tile_has_poc(stream) && all_meet(stream, Demand::Volumes(levels))
+}
+
+/// The order of packets is that of a profile.
+fn is_ordered(stream: &Stream, cinema: Cinema) -> bool
     ensures { result ≡ is_ordered cinema stream.now }
 {
     match cinema {
         Cinema::TwoK => all_meet(stream, Demand::Order),
-        Cinema::FourK => {
-            has_poc(stream.main.as_slice())
-                && !has_poc(stream.header(0))
-                && all_meet(stream, Demand::Volumes(levels))
-        }
+        Cinema::FourK => has_volumes(stream),
     }
 }
 
@@ -267,6 +304,14 @@ fn has_levels(cinema: Cinema, levels: u8) -> bool
     }
 }
 
+/// Each component has the levels of the main header's COD, and these are those of a profile.
+fn levels_meet(stream: &Stream, cinema: Cinema) -> bool
+    ensures { result ≡ levels_meet cinema stream.now }
+{
+    let levels = main_levels(stream);
+    has_levels(cinema, levels) && all_meet(stream, Demand::Levels(levels))
+}
+
 fn guard_bits(cinema: Cinema) -> u8
     ensures { result ≡ guard_bits cinema }
 {
@@ -276,18 +321,26 @@ fn guard_bits(cinema: Cinema) -> u8
     }
 }
 
-/// The first condition of a profile of digital cinema that written headers with these marks don't meet, 1 to 16; none where they meet
-/// all. They are, in their order: Xsiz and Ysiz; no offsets; one tile; three components without subsampling, of 12 bits without a sign;
-/// no RGN; COD, COC, QCD and QCC in the main header alone; code-blocks of 32 by 32; their style 0; precincts of 128 by 128 at the lowest
-/// resolution and 256 by 256 above; the order CPRL without POC, or for 4K a POC of two volumes in the main header alone; one layer; at
-/// most five levels, for 4K one to six, the same for each component; the 9-7 wavelet; one guard bit, for 4K two; a tile-part for each
-/// component; TLM.
+/// Each quantization has the guard bits of a profile.
+fn guards_meet(stream: &Stream, cinema: Cinema) -> bool
+    ensures { result ≡ guards_meet cinema stream.now }
+{
+    let bits = guard_bits(cinema);
+    all_meet(stream, Demand::Guard(bits))
+}
+
+/// The first condition of a profile of digital cinema that written headers with these marks don't meet, 1 to 16; none
+/// where they meet all. They are, in their order: Xsiz and Ysiz; no offsets; one tile; three components without
+/// subsampling, of 12 bits without a sign; no RGN; COD, COC, QCD and QCC in the main header alone; code-blocks of 32
+/// by 32; their style 0; precincts of 128 by 128 at the lowest resolution and 256 by 256 above; the order CPRL
+/// without POC, or for 4K a POC of two volumes in the main header alone; one layer; at most five levels, for 4K one
+/// to six, the same for each component; the 9-7 wavelet; one guard bit, for 4K two; a tile-part for each component;
+/// TLM.
 #[tactic(auto, unfolding(crate::specs::Profile::conditions))]
 pub fn first_unmet(written: &Stream, marks: Marks, cinema: Cinema) -> Option<u32>
     requires { StreamInRange written.now }
     ensures { result ≡ first_unmet cinema marks written.now }
 {
-    let levels = main_levels(written);
     let met = [
         is_small(&written.siz, cinema),
         has_no_offset(&written.siz),
@@ -298,18 +351,19 @@ pub fn first_unmet(written: &Stream, marks: Marks, cinema: Cinema) -> Option<u32
         all_meet(written, Demand::Blocks),
         all_meet(written, Demand::Style),
         all_meet(written, Demand::Precincts),
-        is_ordered(written, cinema, levels),
+        is_ordered(written, cinema),
         all_meet(written, Demand::Layers),
-        has_levels(cinema, levels) && all_meet(written, Demand::Levels(levels)),
+        levels_meet(written, cinema),
         all_meet(written, Demand::Wavelet),
-        all_meet(written, Demand::Guard(guard_bits(cinema))),
+        guards_meet(written, cinema),
         by_component(marks.parts),
         marks.tlm,
     ];
     first_failed(1, &met)
 }
 
-/// The first condition that the profile that is claimed has and written headers don't meet; 0 where its conditions aren't known.
+/// The first condition that the profile that is claimed has and written headers don't meet; 0 where its conditions
+/// aren't known.
 #[tactic(auto, unfolding(crate::specs::Profile::unclaimed))]
 fn unclaimed(written: &Stream, marks: Marks) -> Option<u32>
     requires { StreamInRange written.now }
@@ -327,8 +381,8 @@ fn unclaimed(written: &Stream, marks: Marks) -> Option<u32>
 ///
 /// # Errors
 ///
-/// Choice 11 exactly where they don't, at the number of the first condition of profile 3 or 4 that fails, or at 0 where the conditions of
-/// what is claimed aren't known.
+/// Choice 11 exactly where they don't, at the number of the first condition of profile 3 or 4 that fails, or at 0
+/// where the conditions of what is claimed aren't known.
 pub(crate) fn check_profile(written: &Stream, marks: Marks) -> Result<(), PlanFault>
     requires { StreamInRange written.now }
     ensures met { OnOk result (unclaimed marks written.now ≡ None) }

@@ -14,7 +14,7 @@ use jx_base::{Block, NoMemory};
 use jx_codeblock::Recoded;
 use jx_codestream::{MainView, Stream};
 use jx_layers::LayerPlanner;
-use jx_options::{Marks, Options, OrderChoice, PocChoice, PartChoice, PrecinctChoice, RsizChoice};
+use jx_options::{Marks, Options, OrderChoice, PartChoice, PocChoice, PrecinctChoice, RsizChoice};
 use jx_plan::{OutStream, plan_served};
 use jx_store::Entry;
 use jx_tier2_writer::{AssembleFault, TileOut, main_header, main_view, pack_tile, whole_parts};

@@ -2,7 +2,7 @@ use Rattle.std.proofs.Common.{ap, below_more, List, Some}
 use Rattle.std.specs.List.{list_any}
 use Rattle.jx_marker.specs.declared.Segment.{Segment}
 use Rattle.jx_plan.specs.Fits.{KeepsBlocks}
-use Rattle.jx_plan.specs.Steps.{is_coding}
+use Rattle.jx_plan.specs.Changes.{is_coding}
 use Rattle.jx_plan.proofs.FitLemmas.{known_next}
 use Rattle.jx_plan.proofs.fitting.first_changed.Goals as goal
 

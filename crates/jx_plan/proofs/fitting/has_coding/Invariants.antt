@@ -1,6 +1,6 @@
 use Rattle.std.proofs.Common.{◌≡◌, drop}
 use Rattle.std.specs.List.{list_any}
-use Rattle.jx_plan.specs.Steps.{is_coding}
+use Rattle.jx_plan.specs.Changes.{is_coding}
 use Rattle.jx_plan.proofs.fitting.has_coding.Given as goal
 
 abbrev pub invariant-loop-segment : goal.invariant-loop-segment
