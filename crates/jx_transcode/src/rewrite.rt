@@ -203,8 +203,7 @@ pub fn without_resolutions<'a>(
 /// Plans the output of a picture.
 ///
 /// # Errors
-/// Choice 1, choice 3, choice 2, choice 6, limit 7, choice 4 or choice 5, with the picture's code-blocks and where precincts misfit;
-/// `NoMemory`.
+/// Choice 1, 3, 2 or 6, limit 7, choice 12, 4, 5, 10 or 11, with the picture's code-blocks and where precincts misfit; `NoMemory`.
 pub fn planned<'a, 'b: 'a>(
     alloc: Global,
     picture: &'a Picture<'b>,
