@@ -26,4 +26,4 @@ pub mod KindLemmas
 mod BandLemmas
 mod PackedLemmas
 pub mod SharesLemmas
-pub mod PieceLemmas
+mod PieceLemmas

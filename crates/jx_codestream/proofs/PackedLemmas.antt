@@ -1,5 +1,5 @@
 -- PPM and PPT: in ascending index, and their data.
-use Rattle.std.proofs.Common.{◌≡◌, ◌∙◌, ◌<◌, ◌≤◌, ◌+◌, ◌-◌, ◌==◌, ◌&&◌, ℕ, zero, suc, arith, Bool, true, false, not, nat_lt, nat_le, List, [], ◌∷◌, ◌++◌, length, take, drop, get_or, refl, sym, ap, subst, cond, min, max, sum_by, add-one}
+use Rattle.std.proofs.Common.{◌≡◌, ◌∙◌, ◌<◌, ◌≤◌, ◌+◌, ℕ, zero, suc, arith, true, false, nat_lt, List, [], ◌∷◌, ◌++◌, length, drop, get_or, refl, sym, ap, subst, max, add-one, append-nil}
 use Rattle.std.specs.List.{All, flat_map, insert, position_or_len}
 use Rattle.std.proofs.lemmas.Bool.Decides.{nat_tests}
 use Rattle.std.proofs.lemmas.List.Sums.{position_or_len_is}
@@ -85,3 +85,7 @@ pub order_lies : (b : List ℕ) (packed : List PackedSegment) → PackedLieIn b 
 order_lies b packed h =
     let P : PackedSegment → Type 0 = λ (q : PackedSegment). q.place + 5 + q.length ≤ length b in
     data_lies b (ascending [] packed) (all_ascending P [] packed (All-nil P) h)
+
+-- one alone
+pub one_in_order : (p : PackedSegment) → data_in_order (p ∷ []) ≡ some_piece (data_of p)
+one_in_order p = append-nil (some_piece (data_of p))

@@ -21,7 +21,7 @@ use Rattle.jx_codestream.specs.declared.headers.Header.{Header}
 use Rattle.jx_codestream.specs.declared.parts.PlacedPart.{PlacedPart}
 use Rattle.jx_codestream.specs.declared.Body.{Body}
 use Rattle.jx_codestream.specs.Faults.{broken, fault_of, IsCause}
-use Rattle.jx_codestream.specs.Headers.{header_at, header_fault}
+use Rattle.jx_codestream.specs.Headers.{header_at, header_fault, without_ppt}
 use Rattle.jx_codestream.specs.PackedHeaders.{heads_in}
 use Rattle.jx_codestream.specs.Parts.{marker_at, sot_in, after_sot, kind_of, parts_of, told_other, is_out_of_turn, comes_out_of_turn, tables_say, start_fault, sot_fault, sod_fault, has_wrong_length, end_of, part_header, part_at, part_fault, fault_after, end_of_part, parts_stop, Parts, longest_parts, parts_from, parts_fault, Tracks}
 use Rattle.jx_codestream.proofs.FaultLemmas.{cause_first, cause_later, none_first, none_later, broken_none}
@@ -94,11 +94,11 @@ module _ (packed : Bool) (comps tiles : ℕ) (b : List ℕ) (out : Bool) (at : �
   part_none start sot head sod = rw (start, sot, head, sod) refl
 
 -- the tile-part that was read
-pub part_is : (packed : Bool) (comps : ℕ) (b : List ℕ) (at : ℕ) (sot : Sot) (header : Header) (end : ℕ) (heads : Option (List Body)) → sot ≡ sot_in b at → header ≡ part_header packed comps b at → end ≡ end_of b at sot
-    → heads ≡ heads_in comps (after_sot b at) header.segments
-    → ◌≡◌ {A = PlacedPart} (record { place = at; sot = sot; header = header.segments; heads = heads; body = record { at = header.end + 2; length = end - (header.end + 2) } }) (part_at packed comps b at)
+pub part_is : (packed : Bool) (comps : ℕ) (b : List ℕ) (at : ℕ) (sot : Sot) (header : Header) (rest : List Segment) (end : ℕ) (heads : Option (List Body)) → sot ≡ sot_in b at → header ≡ part_header packed comps b at
+    → rest ≡ without_ppt header.segments → end ≡ end_of b at sot → heads ≡ heads_in comps (after_sot b at) header.segments
+    → ◌≡◌ {A = PlacedPart} (record { place = at; sot = sot; header = rest; heads = heads; body = record { at = header.end + 2; length = end - (header.end + 2) } }) (part_at packed comps b at)
 unfolding part_at
-part_is packed comps b at sot header end heads is head stop apart = rw (apart, stop, head, is) refl
+part_is packed comps b at sot header rest end heads is head without stop apart = rw (apart, without, stop, head, is) refl
 
 -- the header is read from where the SOT ends, for the kind that the SOT says
 pub header_same : (packed : Bool) (comps : ℕ) (b : List ℕ) (at : ℕ) (sot : Sot) (next : ℕ) (kind : HeaderKind) (header : Header) → sot ≡ sot_in b at → next ≡ after_sot b at → kind ≡ kind_of packed sot

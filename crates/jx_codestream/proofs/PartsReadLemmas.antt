@@ -9,7 +9,7 @@ use Rattle.jx_marker.specs.Segments.{spelling}
 use Rattle.jx_marker.specs.Ranges.{SotInRange}
 use Rattle.jx_codestream.specs.declared.headers.Header.{Header}
 use Rattle.jx_codestream.specs.declared.parts.PlacedPart.{PlacedPart}
-use Rattle.jx_codestream.specs.Headers.{stands_in, header_at, header_fault}
+use Rattle.jx_codestream.specs.Headers.{stands_in, header_at, header_fault, without_ppt}
 use Rattle.jx_codestream.specs.PackedHeaders.{heads_in}
 use Rattle.jx_codestream.specs.Parts.{marker_at, sot_in, after_sot, kind_of, comes_out_of_turn, start_fault, sot_fault, sod_fault, end_of, part_header, part_at, fault_after, end_of_part, Parts, longest_parts}
 use Rattle.jx_codestream.specs.Spells.{TilePart, all_bytes, head_bytes, part_bytes, part_of, placed, HasLength, IsTilePart, AreTileParts}
@@ -171,8 +171,8 @@ module _ (packed : Bool) (comps tiles : ℕ) (b : List ℕ) (before : List Place
       record {
         goes = sot_there.goes;
         clear = part_none packed comps tiles b (comes_out_of_turn before (sot_in b at)) at sot_there.clear (subst P (sym sot_there.value) sot_none) header_none (subst Q (sym sot_there.value) last);
-        value = sym (part_is packed comps b at p.sot (record { segments = p.header; end = sod }) (at + length (part_bytes comps p)) (heads_in comps (after_sot b at) p.header) (sym sot_there.value) (sym header_is) (sym end_is) refl)
-            ∙ same_part at p.sot p.header p.header (heads_in comps (after_sot b at) p.header) (heads_in comps (at + length (spelling comps (segment.Sot p.sot))) p.header) (sod + 2) (at + length (head_bytes comps p)) (at + length (part_bytes comps p) - (sod + 2)) (length p.body) refl (ap (λ (n : ℕ). heads_in comps n p.header) (sot_there.after ∙ ap (λ (n : ℕ). at + n) (sym (sot_size comps p.sot)))) (sym head) (omega (arith, whole));
+        value = sym (part_is packed comps b at p.sot (record { segments = p.header; end = sod }) (without_ppt p.header) (at + length (part_bytes comps p)) (heads_in comps (after_sot b at) p.header) (sym sot_there.value) (sym header_is) refl (sym end_is) refl)
+            ∙ same_part at p.sot (without_ppt p.header) (without_ppt p.header) (heads_in comps (after_sot b at) p.header) (heads_in comps (at + length (spelling comps (segment.Sot p.sot))) p.header) (sod + 2) (at + length (head_bytes comps p)) (at + length (part_bytes comps p) - (sod + 2)) (length p.body) refl (ap (λ (n : ℕ). heads_in comps n p.header) (sot_there.after ∙ ap (λ (n : ℕ). at + n) (sym (sot_size comps p.sot)))) (sym head) (omega (arith, whole));
         inside = omega (arith, total, whole, after);
       }
 

@@ -1,11 +1,10 @@
 -- Pieces of the file: their first bytes and what follows them.
-use Rattle.std.proofs.Common.{◌≡◌, ◌∙◌, ◌<◌, ◌≤◌, ◌+◌, ◌-◌, ◌^◌, ◌==◌, ◌&&◌, ◌++◌, ◌∷◌, [], ℕ, zero, suc, Bool, true, false, nat_lt, nat_le, min, arith, List, length, take, drop, set, sum_by, refl, sym, ap, subst, cond, inl, inr, append-nil, append_assoc, get_or, add-one, ◌⊎◌}
-use Rattle.std.specs.List.{All, flat_map}
-use Rattle.std.proofs.lemmas.Bool.{cases_Bool, eqb-true, le-ltb, lt-leb, le-leb, lt-ltb, ltb-true, ltb-false, ne_eqb, eq-eqb}
+use Rattle.std.proofs.Common.{◌≡◌, ◌∙◌, ◌<◌, ◌≤◌, ◌+◌, ◌-◌, ◌^◌, ◌==◌, ◌++◌, ◌∷◌, [], ℕ, zero, suc, Bool, true, false, nat_lt, min, arith, List, length, take, drop, set, refl, sym, ap, subst, inl, inr, append-nil, append_assoc, get_or, add-one, ◌⊎◌}
+use Rattle.std.specs.List.{All}
+use Rattle.std.proofs.lemmas.Bool.{cases_Bool, le-ltb, lt-leb, le-leb, lt-ltb, ltb-true, ltb-false, ne_eqb, eq-eqb}
 use Rattle.std.proofs.lemmas.List.{length-append, length-drop, length-take, drop_all, take_all}
 use Rattle.std.proofs.lemmas.List.Elements.{All-nil, All-cons, All-head, All-tail, All-append}
-use Rattle.std.proofs.lemmas.List.Sums.{sum_by-cons, sum_by-append}
-use Rattle.std.proofs.lemmas.Bool.Decides.{nat_tests}
+use Rattle.std.proofs.lemmas.List.Sums.{sum_by-cons}
 use Rattle.jx_codestream.specs.declared.Body.{Body}
 use Rattle.jx_codestream.specs.declared.parts.PlacedPart.{PlacedPart}
 use Rattle.jx_codestream.specs.PackedHeaders.{LieIn, after_bytes, after_share, first_bytes, joined_bytes, share_fits, share_of, share_size, shared_out, shares_fit, some_piece, together, window, with_heads}

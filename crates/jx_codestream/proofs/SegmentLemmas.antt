@@ -1,28 +1,61 @@
 -- Segments of headers that were read: each is in range, and so is each that is chosen by precedence.
-use Rattle.std.proofs.Common.{◌≡◌, ◌+◌, ◌*◌, ◌==◌, ◌&&◌, ℕ, Bool, true, false, arith, List, [], ◌∷◌, ◌++◌, length, refl, Option, Some, None, ◌⊎◌, inl, inr}
+use Rattle.std.proofs.Common.{◌≡◌, ◌∙◌, ◌+◌, ◌*◌, ◌==◌, ◌&&◌, ◌||◌, nat_lt, ℕ, Bool, true, false, not, arith, List, [], ◌∷◌, ◌++◌, length, refl, sym, ap, Option, Some, None, ◌⊎◌, inl, inr}
 use Rattle.std.specs.List.{All}
 use Rattle.std.specs.Option.{option_or, is_some}
-use Rattle.std.proofs.lemmas.List.Elements.{All-nil, All-cons, All-head, All-tail, All-append}
+use Rattle.std.proofs.lemmas.List.Folds.{list_any-append}
+use Rattle.std.proofs.lemmas.List.Elements.{All-nil, All-cons, All-head, All-tail, All-append, All-filter}
 use Rattle.jx_marker.specs.declared.Segment.{Segment}
 use Rattle.jx_marker.specs.declared.Segment.TheVariants as segment
 use Rattle.jx_marker.specs.declared.Shape.{Shape}
 use Rattle.jx_marker.specs.declared.Quant.{Quant}
 use Rattle.jx_marker.specs.declared.Cod.{Cod}
 use Rattle.jx_marker.specs.Ranges.{InRange, ShapeInRange, CodInRange}
+use Rattle.jx_base.proofs.Tests.{or_false}
 use Rattle.jx_codestream.specs.declared.headers.HeaderKind.{HeaderKind}
 use Rattle.jx_codestream.specs.declared.parts.PlacedPart.{PlacedPart}
-use Rattle.jx_codestream.specs.Headers.{slot_of, has_slot}
+use Rattle.jx_codestream.specs.Headers.{slot_of, has_slot, is_ppt, without_ppt}
 use Rattle.jx_codestream.specs.Tiles.{in_slot, headers_of, first_header}
 use Rattle.jx_codestream.specs.Params.{shape_in, quant_in, cod_in, chosen}
 use Rattle.jx_codestream.specs.First.{lacks_default}
 use Rattle.jx_codestream.specs.Spells.{TilePart, part_bytes, part_of, placed, AreSegments, AreTileParts}
-use Rattle.std.proofs.lemmas.Bool.{not-false, and_parts, eqb-true, cases_Bool}
+use Rattle.std.proofs.lemmas.Bool.{not-false, and_parts, or_parts, eqb-true, cases_Bool}
+
+has_slot_on : (slot : ℕ) (before : List Segment) (s : Segment) → has_slot slot (before ++ s ∷ []) ≡ (has_slot slot before || (slot_of s == slot))
+has_slot_on slot before s = list_any-append (λ (x : Segment). slot_of x == slot) before (s ∷ []) ∙ ap (λ (x : Bool). has_slot slot before || x) (or_false (slot_of s == slot))
 
 -- each segment of a header is in range
 
 pub segments_fit : (kind : HeaderKind) (comps : ℕ) (before segments : List Segment) → AreSegments kind comps before segments → All (InRange comps) segments
 segments_fit kind comps before [] h = All-nil (InRange comps)
 segments_fit kind comps before (s ∷ ss) h = All-cons (InRange comps) s ss h.0.range (segments_fit kind comps (before ++ s ∷ []) ss h.1)
+
+-- without PPT they stand as they did, with fewer before them
+
+once_more : (some one other : Bool) → (some && one) ≡ false → (one ≡ false → other ≡ false) → (some && other) ≡ false
+once_more false one other h fewer = refl
+once_more true one other h fewer = fewer h
+
+pub without_stand : (kind : HeaderKind) (comps : ℕ) (before other segments : List Segment) → ((slot : ℕ) → has_slot slot before ≡ false → has_slot slot other ≡ false)
+    → AreSegments kind comps before segments → AreSegments kind comps other (without_ppt segments)
+without_stand kind comps before other [] fewer h = tt
+without_stand kind comps before other (s ∷ ss) fewer h = elim (cases_Bool (is_ppt s)) [
+  | inl t ↦ rw t (without_stand kind comps (before ++ s ∷ []) other ss (λ slot none. fewer slot (or_parts (has_slot slot before) _ (sym (has_slot_on slot before s) ∙ none)).0) h.1)
+  | inr f ↦ rw f (
+    record {
+      range = h.0.range;
+      stands = h.0.stands;
+      once_packed = h.0.once_packed;
+      inside = h.0.inside;
+      once = once_more (nat_lt 0 (slot_of s)) (has_slot (slot_of s) before) (has_slot (slot_of s) other) h.0.once (fewer (slot_of s));
+    },
+    without_stand kind comps (before ++ s ∷ []) (other ++ s ∷ []) ss
+        (λ slot none. (let both = or_parts (has_slot slot before) (slot_of s == slot) (sym (has_slot_on slot before s) ∙ none) in
+        has_slot_on slot other s ∙ rw (fewer slot both.0, both.1) refl)) h.1,
+  )
+]
+
+pub held_stand : (kind : HeaderKind) (comps : ℕ) (segments : List Segment) → AreSegments kind comps [] segments → AreSegments kind comps [] (without_ppt segments)
+held_stand kind comps segments h = without_stand kind comps [] [] segments (λ slot none. none) h
 
 abbrev pub HasFitting : ℕ → PlacedPart → Type 0
 HasFitting comps p = All (InRange comps) p.header
@@ -31,7 +64,8 @@ pub parts_fit : (packed : Bool) (comps tiles : ℕ) (rest : List ℕ) (before : 
     → All (HasFitting comps) (placed comps at parts)
 parts_fit packed comps tiles rest before at [] h = All-nil (HasFitting comps)
 parts_fit packed comps tiles rest before at (p ∷ ps) h =
-    All-cons (HasFitting comps) (part_of comps at p) (placed comps (at + length (part_bytes comps p)) ps) (segments_fit _ comps [] p.header h.0.header)
+    All-cons (HasFitting comps) (part_of comps at p) (placed comps (at + length (part_bytes comps p)) ps)
+    (All-filter (λ (s : Segment). not (is_ppt s)) (InRange comps) p.header (segments_fit _ comps [] p.header h.0.header))
     (parts_fit packed comps tiles rest (before ++ part_of comps at p ∷ []) (at + length (part_bytes comps p)) ps h.2)
 
 pub first_fits : (comps : ℕ) (own : List PlacedPart) → All (HasFitting comps) own → All (InRange comps) (first_header own)

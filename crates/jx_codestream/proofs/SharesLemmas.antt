@@ -1,7 +1,7 @@
 -- Packet headers that stand apart: what a share leaves as it was, and where the pieces lie.
-use Rattle.std.proofs.Common.{◌≡◌, ◌∙◌, ◌≤◌, ◌+◌, ◌||◌, ◌==◌, ℕ, Bool, true, false, not, arith, List, [], ◌∷◌, ◌++◌, length, refl, sym, ap, suc, subst, drop, Option, Some, None, append-nil, append_assoc, length-append, length-drop}
+use Rattle.std.proofs.Common.{◌≡◌, ◌∙◌, ◌≤◌, ◌+◌, ◌||◌, ◌==◌, ℕ, Bool, false, not, arith, List, [], ◌∷◌, ◌++◌, length, refl, sym, ap, suc, subst, drop, Option, Some, None, append-nil, append_assoc, length-append, length-drop}
 use Rattle.std.specs.List.{All}
-use Rattle.std.proofs.lemmas.Bool.{ne_eqb}
+use Rattle.std.proofs.lemmas.Bool.{ne_eqb, or_parts, true≢false}
 use Rattle.std.proofs.lemmas.List.Elements.{All-nil, All-cons, All-head, All-tail, All-append}
 use Rattle.std.proofs.lemmas.Grind.{flat_map-append}
 use Rattle.byteorder.specs.Endian.{big_bytes}
@@ -12,7 +12,7 @@ use Rattle.jx_marker.specs.Segments.{spelling, with_length}
 use Rattle.jx_codestream.specs.declared.Body.{Body}
 use Rattle.jx_codestream.specs.declared.packed.PackedSegment.{PackedSegment}
 use Rattle.jx_codestream.specs.declared.parts.PlacedPart.{PlacedPart}
-use Rattle.jx_codestream.specs.Headers.{has_packed, is_packed}
+use Rattle.jx_codestream.specs.Headers.{has_packed, is_packed, is_ppt, without_ppt}
 use Rattle.jx_codestream.specs.Spells.{all_bytes}
 use Rattle.jx_codestream.specs.PackedHeaders.{PackedLieIn, after_share, both_heads, data_in_order, heads_of, packed_at, packed_from, share_of, shared_out, with_heads, with_shares}
 
@@ -40,6 +40,21 @@ pub packed_is : (comps at : ℕ) (segments : List Segment) → has_packed segmen
 packed_is comps at [] = refl
 packed_is comps at (s ∷ ss) =
     one_more at s (packed_from comps (at + length (spelling comps s)) ss) (has_packed ss) (packed_is comps (at + length (spelling comps s)) ss)
+
+-- a header without PPM and PPT is held as it is
+
+not_ppt : (s : Segment) → is_packed s ≡ false → is_ppt s ≡ false
+not_ppt (segment.Ppt index bytes) h = absurd (true≢false h)
+not_ppt _ h = refl
+
+pub unpacked_whole : (ss : List Segment) → has_packed ss ≡ false → without_ppt ss ≡ ss
+unpacked_whole [] h = refl
+unpacked_whole (s ∷ ss) h =
+    let both = or_parts (is_packed s) (has_packed ss) h in
+    rw (not_ppt s both.0) (ap (λ (x : List Segment). s ∷ x) (unpacked_whole ss both.1))
+
+pub none_whole : (comps at : ℕ) (ss : List Segment) → packed_from comps at ss ≡ [] → without_ppt ss ≡ ss
+none_whole comps at ss h = unpacked_whole ss (packed_is comps at ss ∙ ap (λ (packed : List PackedSegment). not (length packed == 0)) h)
 
 -- one segment more
 

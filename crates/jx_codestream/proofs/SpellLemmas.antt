@@ -23,7 +23,7 @@ use Rattle.jx_codestream.specs.declared.headers.Header.{Header}
 use Rattle.jx_codestream.specs.declared.parts.PlacedPart.{PlacedPart}
 use Rattle.jx_codestream.specs.declared.Body.{Body}
 use Rattle.jx_codestream.specs.Faults.{broken, rule_at}
-use Rattle.jx_codestream.specs.Headers.{stands_in, ends_header, is_second, is_packed_twice, early_fault, segment_fault, stops, longest, header_at, header_fault}
+use Rattle.jx_codestream.specs.Headers.{stands_in, ends_header, is_second, is_packed_twice, early_fault, segment_fault, stops, longest, header_at, header_fault, without_ppt}
 use Rattle.jx_codestream.specs.PackedHeaders.{heads_in}
 use Rattle.jx_codestream.specs.Parts.{marker_at, sot_in, after_sot, kind_of, comes_out_of_turn, start_fault, sot_fault, sod_fault, has_wrong_length, end_of, part_header, body_of, part_at, part_fault, fault_after, end_of_part, parts_stop, Parts, longest_parts, parts_from, parts_fault}
 use Rattle.jx_codestream.specs.Spells.{TilePart, all_bytes, head_bytes, part_bytes, part_of, placed, AreSegments, IsTilePart, AreTileParts}
@@ -294,7 +294,7 @@ regroup a b c d e = sym (simp append_assoc)
 part_shape : (packed : Bool) (comps : ℕ) (b : List ℕ) (at : ℕ) → part_at packed comps b at ≡ record {
   place = at;
   sot = sot_in b at;
-  header = (part_header packed comps b at).segments;
+  header = without_ppt (part_header packed comps b at).segments;
   heads = heads_in comps (after_sot b at) (part_header packed comps b at).segments;
   body = body_of b at (sot_in b at) (part_header packed comps b at).end;
 }
@@ -335,10 +335,10 @@ module _ (comps : ℕ) (b : List ℕ) (at : ℕ) (sot : Sot) (header : Header) (
   part_size = omega (arith, head_size, data_size, length-append (head_bytes comps written_of) data_of, sizes.within)
 
   is_placed : (segments : List Segment) → segments ≡ new
-      → ◌≡◌ {A = PlacedPart} (record { place = at; sot = sot; header = segments; heads = heads_in comps (at + size) segments; body = body_of b at sot header.end }) (part_of comps at written_of)
+      → ◌≡◌ {A = PlacedPart} (record { place = at; sot = sot; header = without_ppt segments; heads = heads_in comps (at + size) segments; body = body_of b at sot header.end }) (part_of comps at written_of)
   unfolding written_of
   is_placed segments same =
-      same_part at sot segments new (heads_in comps (at + size) segments) (heads_in comps (at + length (spelling comps (segment.Sot sot))) new) (header.end + 2) (at + length (head_bytes comps written_of)) (end_of b at sot - (header.end + 2)) (length data_of) same
+      same_part at sot (without_ppt segments) (without_ppt new) (heads_in comps (at + size) segments) (heads_in comps (at + length (spelling comps (segment.Sot sot))) new) (header.end + 2) (at + length (head_bytes comps written_of)) (end_of b at sot - (header.end + 2)) (length data_of) (ap without_ppt same)
       (ap (λ (n : ℕ). heads_in comps (at + n) segments) sizes.sot_size ∙ ap (heads_in comps (at + length (spelling comps (segment.Sot sot)))) same) (sym head_size) (sym data_size)
 
   is_written : drop at b ≡ spelling comps (segment.Sot sot) ++ drop (at + size) b → drop (at + size) b ≡ all_bytes comps new ++ drop header.end b

@@ -1,5 +1,5 @@
 -- Tiles from their drafts.
-use Rattle.std.proofs.Common.{◌≡◌, ◌∙◌, ◌<◌, ◌+◌, ℕ, arith, List, [], ◌∷◌, ◌++◌, length, get_or, refl, sym, ap, subst, None, ◌⊎◌, inl, inr}
+use Rattle.std.proofs.Common.{◌≡◌, ◌∙◌, ◌<◌, ◌+◌, ℕ, arith, List, [], ◌∷◌, ◌++◌, length, get_or, refl, sym, ap, subst, false, None, ◌⊎◌, inl, inr}
 use Rattle.std.proofs.lemmas.List.{get_or_append_left, length-append}
 use Rattle.std.proofs.Math.Seq.{get_or-append_seam}
 use Rattle.std.proofs.lemmas.List.FromFn.{fill_by_all}
@@ -58,10 +58,10 @@ pub tiles_are : (main : List Segment) (parts : List PlacedPart) (count : ℕ) (d
     → ((k : ℕ) (other : Draft) (another : Tile) (own : List PlacedPart) → k < length drafts → Collects own (get_or drafts k other) → get_or tiles k another ≡ tile_from main own)
     → tiles ≡ tiles_of main parts count
 tiles_are main parts count [] tiles size same collected finished =
-    let some : Tile = record { place = 0; header = []; notes = []; progressions = []; heads = None; bodies = [] } in
+    let some : Tile = record { place = 0; header = []; notes = []; has_plt = false; progressions = []; heads = None; bodies = [] } in
     fill_by_all (tile_of main parts) tiles count some (same ∙ size) (λ k inside. absurd (omega arith))
 tiles_are main parts count (first ∷ later) tiles size same collected finished =
-    let some : Tile = record { place = 0; header = []; notes = []; progressions = []; heads = None; bodies = [] } in
+    let some : Tile = record { place = 0; header = []; notes = []; has_plt = false; progressions = []; heads = None; bodies = [] } in
     fill_by_all (tile_of main parts) tiles count some (same ∙ size)
     (λ k inside. let within : k < length (first ∷ later) = omega (arith, size) in
     finished k first some (parts_of k parts) within (collected k first inside) ∙ tile_of_is main parts k)

@@ -19,7 +19,7 @@ use Rattle.jx_codestream.specs.Faults.{broken, IsCause, Answers}
 use Rattle.jx_codestream.specs.Headers.{has_packed, header_at, header_fault}
 use Rattle.jx_codestream.specs.declared.packed.PackedSegment.{PackedSegment}
 use Rattle.jx_codestream.specs.PackedHeaders.{packed_from, shares_fault, with_shares}
-use Rattle.jx_codestream.specs.Parts.{marker_at, Parts, parts_from, parts_fault, fault_after}
+use Rattle.jx_codestream.specs.Parts.{marker_at, Parts, parts_from, fault_after}
 use Rattle.jx_codestream.specs.Tiles.{tiles_of}
 use Rattle.jx_codestream.specs.Params.{tile_has_too_few, tile_planes, rule_9_of, limit_4_of, planes_fault}
 use Rattle.jx_codestream.specs.First.{tile_number, siz_of, after_siz, front_fault, tiles_fault, lacks_default, main_header, main_fault, parts_after, lacks_part, body_fault, stream_from, stream_in, parameters_fault, later_fault, first_fault}

@@ -1,6 +1,6 @@
 -- Headers: segments one after another, up to the SOT or SOD that ends them (T.800, A.3).
 use Rattle.std.specs.Prelude.{◌≡◌, ◌<◌, ◌≤◌, ℕ, zero, suc, ◌+◌, ◌*◌, ◌%◌, ◌==◌, ◌&&◌, ◌||◌, not, nat_lt, Bool, true, false, List, [], ◌∷◌, ◌++◌, length, drop, Option, if◌then◌else◌, slice_index}
-use Rattle.std.specs.List.{list_any}
+use Rattle.std.specs.List.{filter, list_any}
 use Rattle.std.specs.Option.{option_or, is_some}
 use Rattle.jx_marker.specs.declared.Segment.{Segment}
 use Rattle.jx_marker.specs.declared.Segment.TheVariants as segment
@@ -64,6 +64,10 @@ is_beside_ppm _ = false
 abbrev pub is_ppt : Segment → Bool
 is_ppt (segment.Ppt index bytes) = true
 is_ppt _ = false
+
+-- what a stream holds of a tile-part's header: all segments but PPT, whose data are packet headers
+abbrev pub without_ppt : List Segment → List Segment
+without_ppt segments = filter (λ (s : Segment). not (is_ppt s)) segments
 
 -- rule 14: a PPT, where the main header has a PPM (A.7.5)
 abbrev pub is_packed_twice : HeaderKind → Segment → Bool

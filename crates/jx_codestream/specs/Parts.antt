@@ -15,7 +15,7 @@ use Rattle.jx_codestream.specs.declared.headers.Header.{Header}
 use Rattle.jx_codestream.specs.declared.parts.PlacedPart.{PlacedPart}
 use Rattle.jx_codestream.specs.declared.Body.{Body}
 use Rattle.jx_codestream.specs.Faults.{broken, rule_at}
-use Rattle.jx_codestream.specs.Headers.{header_at, header_fault}
+use Rattle.jx_codestream.specs.Headers.{header_at, header_fault, without_ppt}
 use Rattle.jx_codestream.specs.PackedHeaders.{heads_in}
 
 -- the marker of this second byte stands at a place
@@ -92,7 +92,7 @@ unfoldable pub part_at : Bool → ℕ → List ℕ → ℕ → PlacedPart
 part_at packed comps b at = record {
   place = at;
   sot = sot_in b at;
-  header = (part_header packed comps b at).segments;
+  header = without_ppt (part_header packed comps b at).segments;
   heads = heads_in comps (after_sot b at) (part_header packed comps b at).segments;
   body = body_of b at (sot_in b at) (part_header packed comps b at).end;
 }

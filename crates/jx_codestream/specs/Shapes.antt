@@ -75,7 +75,7 @@ style_of s t c = style_in (headers_at s t) c
 
 -- a tile that isn't there
 abbrev pub no_tile : Tile
-no_tile = record { place = 0; header = []; notes = []; progressions = []; heads = None; bodies = [] }
+no_tile = record { place = 0; header = []; notes = []; has_plt = false; progressions = []; heads = None; bodies = [] }
 
 abbrev pub tile_at : Stream → ℕ → Tile
 tile_at s t = slice_index_or s.tiles t no_tile

@@ -11,7 +11,7 @@ use Rattle.jx_codestream.specs.declared.headers.HeaderKind.{HeaderKind}
 use Rattle.jx_codestream.specs.declared.headers.HeaderKind.TheVariants.{Main}
 use Rattle.jx_codestream.specs.declared.parts.PlacedPart.{PlacedPart}
 use Rattle.jx_codestream.specs.declared.Stream.{Stream}
-use Rattle.jx_codestream.specs.Headers.{stands_in, ends_header, is_second, is_packed_twice, has_packed}
+use Rattle.jx_codestream.specs.Headers.{stands_in, ends_header, is_second, is_packed_twice, has_packed, without_ppt}
 use Rattle.jx_codestream.specs.declared.packed.PackedSegment.{PackedSegment}
 use Rattle.jx_codestream.specs.PackedHeaders.{heads_in, packed_from, shares_fault, with_shares}
 use Rattle.jx_codestream.specs.Parts.{kind_of, comes_out_of_turn}
@@ -42,12 +42,12 @@ file_bytes siz main parts rest =
     spelling 1 segment.Soc ++ (spelling 1 (segment.Siz siz) ++ (all_bytes (length siz.comps) main ++ (flat_map (part_bytes (length siz.comps)) parts
     ++ (spelling 1 segment.Eoc ++ rest))))
 
--- a tile-part that begins at a place
+-- a tile-part that begins at a place, as a stream holds it
 abbrev pub part_of : ℕ → ℕ → TilePart → PlacedPart
 part_of comps at p = record {
   place = at;
   sot = p.sot;
-  header = p.header;
+  header = without_ppt p.header;
   heads = heads_in comps (at + length (spelling comps (segment.Sot p.sot))) p.header;
   body = record { at = at + length (head_bytes comps p); length = length p.body };
 }

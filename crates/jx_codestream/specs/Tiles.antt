@@ -1,6 +1,6 @@
 -- Tiles: what their tile-parts say together (T.800, A.4.2 and B.3).
 use Rattle.std.specs.Prelude.{◌≡◌, ℕ, ◌==◌, Bool, true, false, List, [], ◌∷◌, drop, map, Option, Some, find}
-use Rattle.std.specs.List.{filter, flat_map, range_with_len}
+use Rattle.std.specs.List.{filter, flat_map, list_any, range_with_len}
 use Rattle.jx_marker.specs.declared.Segment.{Segment}
 use Rattle.jx_marker.specs.declared.Progression.{Progression}
 use Rattle.jx_marker.specs.declared.Cod.{Cod}
@@ -29,6 +29,11 @@ abbrev pub is_com : Segment → Bool
 is_com (segment.Com bytes) = true
 is_com _ = false
 
+-- packet lengths (A.7.3)
+abbrev pub is_plt : Segment → Bool
+is_plt (segment.Plt bytes) = true
+is_plt _ = false
+
 -- the one entry that a COD stands for: all layers, resolutions and components in its order
 abbrev pub entry_of : Cod → Progression
 entry_of cod = record { rs = 0; cs = 0; lye = cod.layers; re = 33; ce = 0; order = cod.order }
@@ -37,7 +42,7 @@ abbrev pub entry_in : Option Segment → List Progression
 entry_in (Some (segment.Cod cod)) = entry_of cod ∷ []
 entry_in _ = []
 
--- all segments of some tile-parts' headers
+-- all segments of some tile-parts' headers but PPT
 abbrev pub headers_of : List PlacedPart → List Segment
 headers_of own = flat_map (λ (p : PlacedPart). p.header) own
 
@@ -65,6 +70,7 @@ tile_from main own = record {
   place = first_place own;
   header = first_header own;
   notes = filter is_com (headers_of (drop 1 own));
+  has_plt = list_any is_plt (headers_of own);
   progressions = progressions_of main own;
   heads = heads_of own;
   bodies = map (λ (p : PlacedPart). p.body) own;
@@ -83,6 +89,7 @@ pub record Collects (own : List PlacedPart) (draft : Draft) : Type 0 where
   pub place : draft.place ≡ first_place own
   pub header : draft.header.items ≡ first_header own
   pub notes : draft.notes.items ≡ filter is_com (headers_of (drop 1 own))
+  pub has_plt : draft.has_plt ≡ list_any is_plt (headers_of own)
   pub entries : draft.entries.items ≡ entries_joined (headers_of own)
   pub heads : draft.heads ≡ heads_of own
   pub bodies : draft.bodies.items ≡ map (λ (p : PlacedPart). p.body) own

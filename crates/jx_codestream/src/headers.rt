@@ -5,7 +5,7 @@ ghost use Rattle.std.specs.Option.{option_or};
 ghost use Rattle.jx_marker.specs.Ranges.{InRange};
 ghost use Rattle.jx_marker.specs.Segments.{segment_at, size_at, spelling};
 ghost use Rattle.jx_codestream.specs.Faults.{Answers, fault_of};
-ghost use Rattle.jx_codestream.specs.Headers.{stands_in, ends_header, is_packed_twice, slot_of, slot_count, early_fault, header_at, header_fault, MarksSlots};
+ghost use Rattle.jx_codestream.specs.Headers.{stands_in, ends_header, is_packed_twice, is_ppt, slot_of, slot_count, early_fault, header_at, header_fault, MarksSlots};
 ghost use Rattle.jx_codestream.specs.PackedHeaders.{PackedLieIn, packed_from};
 ghost use Rattle.jx_base.specs.Limits.{most_bytes};
 
@@ -94,12 +94,17 @@ fn stands_in(kind: HeaderKind, segment: &Segment) -> bool
     }
 }
 
+pub fn is_ppt(segment: &Segment) -> bool
+    ensures { result ≡ is_ppt segment.now }
+{
+    matches!(segment, Segment::Ppt { .. })
+}
+
 /// Rule 14: a PPT, where the main header has a PPM.
 fn is_packed_twice(kind: HeaderKind, segment: &Segment) -> bool
     ensures { result ≡ is_packed_twice kind segment.now }
 {
-    matches!(kind, HeaderKind::PackedFirst | HeaderKind::PackedLater)
-        && matches!(segment, Segment::Ppt { .. })
+    matches!(kind, HeaderKind::PackedFirst | HeaderKind::PackedLater) && is_ppt(segment)
 }
 
 /// The number of a segment's kind, or of its kind and component, where a header has it once at most, else 0.

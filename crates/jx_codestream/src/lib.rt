@@ -44,10 +44,12 @@ pub struct Body {
 pub struct Tile {
     /// The first byte of the tile's first SOT.
     pub place: u32,
-    /// The segments of its first tile-part's header, without SOT and SOD.
+    /// The segments of its first tile-part's header, without SOT, SOD and PPT.
     pub header: Segments,
     /// The COM segments of its later tile-parts.
     pub notes: Segments,
+    /// Whether a PLT stands in the header of one of its tile-parts.
+    pub has_plt: bool,
     /// The entries by which its packets are ordered.
     pub progressions: Entries,
     /// Its packet headers, where they stand apart from its packets.

@@ -1,12 +1,13 @@
 //! Lists of segments and of tile data, which contracts see as lists.
 
 ghost use Rattle.jx_codestream.specs.PackedHeaders.{both_heads};
-ghost use Rattle.std.specs.Prelude.{◌≡◌, IfOk, OnOk, MatchOption, Some, None};
+ghost use Rattle.std.specs.Prelude.{◌≡◌, ◌∷◌, [], IfOk, OnOk, MatchOption, Some, None};
 
 use crate::{Body, Tile};
 use jx_marker::{Progression, Segment};
 use std::alloc::{AllocError, Global};
 use std::marker::Model;
+use std::slice::from_ref;
 use std::sync::ArcSlice;
 
 /// Segments, which contracts see as a list.
@@ -89,9 +90,19 @@ impl Bodies {
 
 /// A tile's packet headers that stand apart from its packets (T.800, A.7.4 and A.7.5): none, or pieces of the file, whose
 /// bytes, joined, they are. Contracts see an optional list, which may be empty.
+///
+/// One piece takes no memory of its own.
 #[derive(Drop)]
 pub struct Heads {
-    items: Option<Vec<Body>>,
+    pieces: Pieces,
+}
+
+/// Where the pieces stand.
+#[derive(Drop)]
+enum Pieces {
+    None,
+    One(Body),
+    Many(Vec<Body>),
 }
 
 impl Model for Heads {
@@ -101,7 +112,7 @@ impl Model for Heads {
 
     ghost Value = { Option (List Body) };
 
-    ghost view = { λ heads. held heads.items };
+    ghost view = { λ heads. held heads.pieces };
 }
 
 impl Heads {
@@ -109,15 +120,29 @@ impl Heads {
     pub fn none() -> Self
         ensures { result ≡ None }
     {
-        Heads { items: None }
+        Heads {
+            pieces: Pieces::None,
+        }
     }
 
     /// The packet headers in these pieces.
     pub fn new(pieces: Vec<Body>) -> Self
         ensures { result ≡ Some pieces.items }
     {
+        if let [piece] = pieces.as_slice() {
+            return Heads::one(*piece);
+        }
         Heads {
-            items: Some(pieces),
+            pieces: Pieces::Many(pieces),
+        }
+    }
+
+    /// The packet headers in this piece.
+    pub fn one(piece: Body) -> Self
+        ensures { result ≡ Some (piece ∷ []) }
+    {
+        Heads {
+            pieces: Pieces::One(piece),
         }
     }
 
@@ -125,36 +150,35 @@ impl Heads {
     pub fn pieces(&self) -> Option<&[Body]>
         ensures { MatchOption result (self.now ≡ None) (λ pieces. self.now ≡ Some pieces.now) }
     {
-        match &self.items {
-            Some(pieces) => Some(pieces.as_slice()),
-            None => None,
+        match &self.pieces {
+            Pieces::None => None,
+            Pieces::One(piece) => Some(from_ref(piece)),
+            Pieces::Many(pieces) => Some(pieces.as_slice()),
         }
     }
 
     /// Adds those of a later tile-part, where it has some.
-    pub fn add(&mut self, later: Heads) -> Result<(), AllocError>
+    pub fn add(&mut self, alloc: Global, later: Heads) -> Result<(), AllocError>
         ensures { OnOk result (self.new ≡ both_heads self.old later) }
     {
-        let Some(more) = later.into_vec() else {
+        let Some(more) = later.pieces() else {
             return Ok(());
         };
-        match &mut self.items {
-            Some(pieces) => {
-                pieces.extend_from_slice(&more)?;
+        match &mut self.pieces {
+            Pieces::None => {
+                *self = later;
             }
-            None => {
-                self.items = Some(more);
+            Pieces::One(piece) => {
+                let mut pieces = Vec::new(alloc);
+                pieces.push(*piece)?;
+                pieces.extend_from_slice(more)?;
+                self.pieces = Pieces::Many(pieces);
+            }
+            Pieces::Many(pieces) => {
+                pieces.extend_from_slice(more)?;
             }
         }
         Ok(())
-    }
-
-    /// The pieces as the `Vec` that they came in.
-    pub fn into_vec(self) -> Option<Vec<Body>>
-        ensures { MatchOption result (self ≡ None) (λ pieces. self ≡ Some pieces.items) }
-    {
-        let Heads { items } = self;
-        items
     }
 }
 

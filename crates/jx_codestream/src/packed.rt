@@ -1,16 +1,17 @@
 //! Packet headers that stand apart from their packets, in PPM or PPT (ITU-T T.800, A.7.4 and A.7.5).
 
-ghost use Rattle.std.specs.Prelude.{◌≡◌, ◌≤◌, ◌<◌, ◌+◌, ◌^◌, ◌++◌, [], nat_lt, length, IfOk, OnOk, true};
+ghost use Rattle.std.specs.Prelude.{◌≡◌, ◌≤◌, ◌<◌, ◌+◌, ◌^◌, ◌++◌, ◌∷◌, [], nat_lt, length, IfOk, OnOk, true};
 ghost use Rattle.std.specs.List.{All, flat_map, position_or_len};
 ghost use Rattle.jx_base.specs.Limits.{most_bytes};
 ghost use Rattle.jx_marker.specs.Ranges.{InRange};
 ghost use Rattle.jx_codestream.specs.Faults.{Answers};
+ghost use Rattle.jx_codestream.specs.Headers.{without_ppt};
 ghost use Rattle.jx_codestream.specs.PackedHeaders.{LieIn, PackedLieIn, ascending, data_in_order, data_of, heads_by, joined_bytes, packed_at, shared_out, shares_fault, shares_fit, some_piece, with_packed, with_shares};
 
-use crate::headers::violated;
+use crate::headers::{is_ppt, violated};
 use crate::parts::PlacedPart;
 use crate::shares::Cursor;
-use crate::{Body, Heads, StreamFault};
+use crate::{Body, Heads, Segments, StreamFault};
 use jx_marker::{Segment, rule_numbers};
 use std::alloc::{AllocError, Global};
 
@@ -141,11 +142,49 @@ pub fn heads_by(alloc: Global, packed: &[PackedSegment]) -> Result<Heads, AllocE
     requires { All (λ (one : PackedSegment). one.place + 5 < 2 ^ 32) packed.now }
     ensures { IfOk result (λ heads. heads ≡ heads_by packed.now) }
 {
-    if packed.is_empty() {
-        return Ok(Heads::none());
+    match packed {
+        [] => Ok(Heads::none()),
+        [only] => Ok(heads_by_one(alloc, *only)),
+        _ => {
+            let pieces = data_in_order(alloc, packed)?;
+            Ok(Heads::new(pieces))
+        }
     }
-    let pieces = data_in_order(alloc, packed)?;
-    Ok(Heads::new(pieces))
+}
+
+/// The packet headers that the only PPT of a header has.
+#[tactic(auto, using(crate::proofs::PackedLemmas::one_in_order))]
+fn heads_by_one(alloc: Global, only: PackedSegment) -> Heads
+    requires { only.place + 5 < 2 ^ 32 }
+    ensures { result ≡ heads_by (only ∷ []) }
+{
+    if only.length == 0 {
+        return Heads::new(Vec::new(alloc));
+    }
+    Heads::one(data_of(only))
+}
+
+/// A header without PPT. `packed` are its PPM and PPT.
+pub fn without_ppt(
+    alloc: Global,
+    header: Segments,
+    packed: &[PackedSegment],
+) -> Result<Segments, AllocError>
+    requires { packed.now ≡ [] → without_ppt header ≡ header }
+    ensures { IfOk result (λ rest. rest ≡ without_ppt header) }
+{
+    if packed.is_empty() {
+        return Ok(header);
+    }
+    let mut rest = Vec::new(alloc);
+    for segment in header.into_vec() {
+        if is_ppt(&segment) {
+            drop(segment);
+        } else {
+            rest.push(segment)?;
+        }
+    }
+    Ok(Segments::new(rest))
 }
 
 /// The bytes of pieces of the file, joined.

@@ -14,7 +14,7 @@ ghost use Rattle.jx_codestream.specs.Parts.{marker_at, sot_in, after_sot, kind_o
 ghost use Rattle.jx_base.specs.Limits.{most_bytes};
 
 use crate::headers::{HeaderKind, fault_of, read_header, violated};
-use crate::packed::heads_by;
+use crate::packed::{heads_by, without_ppt};
 use crate::{Body, Heads, Segments, StreamFault};
 use jx_marker::codes::{EOC, SOT};
 use jx_marker::{Segment, Sot, read_segment, rule_numbers};
@@ -27,7 +27,7 @@ pub struct PlacedPart {
     pub place: u32,
     /// Its SOT.
     pub sot: Sot,
-    /// The segments of its header after SOT and before SOD.
+    /// The segments of its header after SOT and before SOD, without PPT.
     pub header: Segments,
     /// Its packet headers, where they stand apart from its packets.
     pub heads: Heads,
@@ -198,11 +198,12 @@ fn read_part(
     let (header, packed) = read_header(alloc, bytes, next, kind, comps, seen)?;
     let end = end_of(bytes, at, sot, header.end)?;
     let heads = heads_by(alloc, &packed)?;
+    let rest = without_ppt(alloc, header.segments, &packed)?;
     let data = header.end + 2;
     Ok(PlacedPart {
         place: at as u32,
         sot,
-        header: header.segments,
+        header: rest,
         heads,
         body: Body {
             at: data as u32,

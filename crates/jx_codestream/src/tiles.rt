@@ -1,14 +1,14 @@
 //! What the tile-parts of a tile say together.
 
-ghost use Rattle.std.specs.Prelude.{◌≡◌, ◌≤◌, ◌<◌, ◌+◌, ◌==◌, ◌++◌, ◌∷◌, [], List, length, map, IfOk, OnOk, ℕ, MatchOption, Some, None, if◌then◌else◌, slice_index_or};
-ghost use Rattle.std.specs.List.{filter, flat_map};
+ghost use Rattle.std.specs.Prelude.{◌≡◌, ◌≤◌, ◌<◌, ◌+◌, ◌==◌, ◌||◌, ◌++◌, ◌∷◌, [], List, length, map, IfOk, OnOk, ℕ, MatchOption, Some, None, if◌then◌else◌, slice_index_or};
+ghost use Rattle.std.specs.List.{filter, flat_map, list_any};
 ghost use Rattle.std.specs.Option.{option_to_list};
 ghost use Rattle.std.specs.List.{All};
 ghost use Rattle.jx_marker.specs.declared.Segment.{Segment};
 ghost use Rattle.jx_codestream.specs.declared.tiles.Draft.{Draft};
 ghost use Rattle.jx_codestream.specs.declared.parts.PlacedPart.{PlacedPart};
 ghost use Rattle.jx_codestream.specs.Headers.{cod_slot, slot_of};
-ghost use Rattle.jx_codestream.specs.Tiles.{in_slot, entries_joined, is_com, entry_in, entries_of, or_list, tile_from, tiles_of, Collects};
+ghost use Rattle.jx_codestream.specs.Tiles.{in_slot, entries_joined, is_com, is_plt, entry_in, entries_of, or_list, tile_from, tiles_of, Collects};
 ghost use Rattle.jx_codestream.specs.Parts.{parts_of};
 
 use crate::headers::slot_of;
@@ -23,6 +23,7 @@ pub struct Draft {
     pub place: u32,
     pub header: Vec<Segment>,
     pub notes: Vec<Segment>,
+    pub has_plt: bool,
     pub entries: Vec<Progression>,
     pub heads: Heads,
     pub bodies: Vec<Body>,
@@ -58,6 +59,28 @@ fn is_com(segment: &Segment) -> bool
     matches!(segment, Segment::Com(_))
 }
 
+fn is_plt(segment: &Segment) -> bool
+    ensures { result ≡ is_plt segment.now }
+{
+    matches!(segment, Segment::Plt(_))
+}
+
+fn any_plt(segments: &[Segment]) -> bool
+    ensures { result ≡ list_any is_plt segments.now }
+{
+    segments.iter().any(|segment| is_plt(segment))
+}
+
+/// Whether a PLT stood before, or is among segments.
+fn has_plt(before: bool, segments: &[Segment]) -> bool
+    ensures { result ≡ (before || list_any is_plt segments.now) }
+{
+    if before {
+        return true;
+    }
+    any_plt(segments)
+}
+
 /// Appends the COM segments.
 fn push_notes(segments: Vec<Segment>, notes: &mut Vec<Segment>) -> Result<(), AllocError>
     ensures { OnOk result (notes.new.items ≡ notes.old.items ++ filter is_com segments.items) }
@@ -80,6 +103,7 @@ impl Draft {
             place: 0,
             header: Vec::new(alloc),
             notes: Vec::new(alloc),
+            has_plt: false,
             entries: Vec::new(alloc),
             heads: Heads::none(),
             bodies: Vec::new(alloc),
@@ -88,11 +112,12 @@ impl Draft {
 
     /// Adds the tile's next tile-part.
     #[tactic(auto, using(crate::proofs::SharesLemmas::heads_on))]
-    fn add(&mut self, part: PlacedPart) -> Result<(), AllocError>
+    fn add(&mut self, alloc: Global, part: PlacedPart) -> Result<(), AllocError>
         ensures { OnOk result ((own : List PlacedPart) → Collects own self.old → Collects (own ++ part ∷ []) self.new) }
     {
         push_entries(part.header.as_slice(), &mut self.entries)?;
-        self.heads.add(part.heads)?;
+        self.has_plt = has_plt(self.has_plt, part.header.as_slice());
+        self.heads.add(alloc, part.heads)?;
         if self.bodies.is_empty() {
             self.place = part.place;
             self.header = part.header.into_vec();
@@ -130,7 +155,7 @@ fn collect_parts(
     let mut drafts = empty_drafts(alloc, count)?;
     for part in parts {
         let tile = usize::from(part.sot.tile);
-        drafts[tile].add(part)?;
+        drafts[tile].add(alloc, part)?;
     }
     Ok(drafts)
 }
@@ -195,6 +220,7 @@ impl Draft {
             place,
             header,
             notes,
+            has_plt,
             entries,
             heads,
             bodies,
@@ -204,6 +230,7 @@ impl Draft {
             place,
             header: Segments::new(header),
             notes: Segments::new(notes),
+            has_plt,
             progressions,
             heads,
             bodies: Bodies::new(bodies),

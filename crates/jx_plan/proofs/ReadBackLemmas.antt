@@ -1,6 +1,6 @@
 -- The tile that is read from the tile-parts of a written file.
-use Rattle.std.proofs.Common.{◌≡◌, ◌∙◌, ◌<◌, ℕ, true, false, arith, List, [], ◌∷◌, ◌++◌, length, get_or, drop, map, refl, sym, ap, Option, append-nil}
-use Rattle.std.specs.List.{All, filter}
+use Rattle.std.proofs.Common.{◌≡◌, ◌∙◌, ◌<◌, ℕ, Bool, true, false, arith, List, [], ◌∷◌, ◌++◌, length, get_or, drop, map, refl, sym, ap, Option, append-nil}
+use Rattle.std.specs.List.{All, filter, list_any}
 use Rattle.std.proofs.lemmas.Grind.{flat_map-append}
 use Rattle.std.proofs.lemmas.List.{length-map}
 use Rattle.std.proofs.lemmas.List.FromFn.{get_or-map-range_with_len, length-map-range_with_len}
@@ -82,15 +82,15 @@ module _ (a : HeaderOptions) (comps : ℕ) (main : List Segment) (m : MainOrder)
       ap (λ (es : List Progression). or_list es (or_list written_order.joined (or_list (entry_in (in_slot 1 (first_header own))) written_order.default))) joined_own
       ∙ ap (λ (o : Option Segment). or_list (entries_joined (tile_header a comps m t)) (or_list written_order.joined (or_list (entry_in o) written_order.default))) slot_read
 
-  same_tile : (header other notes : List Segment) (place : ℕ) (entries others : List Progression) (heads : Option (List Body)) (bodies : List Body) → header ≡ other → notes ≡ [] → entries ≡ others
-      → ◌≡◌ {A = Tile} (record { place = place; header = header; notes = notes; progressions = entries; heads = heads; bodies = bodies })
-      (record { place = place; header = other; notes = []; progressions = others; heads = heads; bodies = bodies })
-  same_tile header other notes place entries others heads bodies h k e = rw (h, k, e) refl
+  same_tile : (header other notes : List Segment) (place : ℕ) (plt : Bool) (entries others : List Progression) (heads : Option (List Body)) (bodies : List Body) → header ≡ other → notes ≡ [] → entries ≡ others
+      → ◌≡◌ {A = Tile} (record { place = place; header = header; notes = notes; has_plt = plt; progressions = entries; heads = heads; bodies = bodies })
+      (record { place = place; header = other; notes = []; has_plt = plt; progressions = others; heads = heads; bodies = bodies })
+  same_tile header other notes place plt entries others heads bodies h k e = rw (h, k, e) refl
 
   pub tile_read : tile_from (main_written a comps main) own
-      ≡ record (tile_written a comps m written_order t) { place = first_place own; header = tile_header a comps m t ++ more; heads = heads_of own; bodies = map (λ (p : PlacedPart). p.body) own }
+      ≡ record (tile_written a comps m written_order t) { place = first_place own; header = tile_header a comps m t ++ more; has_plt = list_any is_plt (headers_of own); heads = heads_of own; bodies = map (λ (p : PlacedPart). p.body) own }
   tile_read =
-      same_tile (first_header own) (tile_header a comps m t ++ more) (filter is_com (headers_of (drop 1 own))) (first_place own) (progressions_of (main_written a comps main) own)
+      same_tile (first_header own) (tile_header a comps m t ++ more) (filter is_com (headers_of (drop 1 own))) (first_place own) (list_any is_plt (headers_of own)) (progressions_of (main_written a comps main) own)
       (tile_written a comps m written_order t).progressions (heads_of own) (map (λ (p : PlacedPart). p.body) own) first (no_notes (headers_of (drop 1 own)) later) entries_read
 
 pub tile_with_more : (a : HeaderOptions) (comps : ℕ) (main : List Segment) (m : MainOrder) (t : Tile) (own : List PlacedPart) → HaveHeaders a comps m t own

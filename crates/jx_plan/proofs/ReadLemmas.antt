@@ -20,7 +20,7 @@ use Rattle.jx_codestream.specs.Tiles.{is_com, headers_of, first_header, tile_of,
 use Rattle.jx_codestream.specs.First.{tile_number}
 use Rattle.jx_codestream.specs.Spells.{TilePart, part_of, part_bytes, placed, first_sot, main_packed, AreSegments, AreTileParts, IsTilePart}
 use Rattle.jx_codestream.specs.Read.{IsRead}
-use Rattle.jx_codestream.proofs.SegmentLemmas.{HasFitting, parts_fit, headers_fit, segments_fit}
+use Rattle.jx_codestream.proofs.SegmentLemmas.{HasFitting, parts_fit, headers_fit, held_stand, segments_fit}
 use Rattle.jx_codestream.proofs.SharesLemmas.{shares_keep}
 use Rattle.jx_plan.specs.Standing.{IsNote, IsHeaded, HeadersStand}
 use Rattle.jx_plan.proofs.EntryLemmas.{read_fit}
@@ -66,7 +66,7 @@ first_stands : (packed : Bool) (comps tiles t : ℕ) (rest : List ℕ) (before :
 first_stands packed comps tiles t rest before at [] none are = tt
 first_stands packed comps tiles t rest before at (p ∷ ps) none are =
     by_tile comps (p.sot.tile == t) (part_of comps at p) (parts_of t (placed comps (at + length (part_bytes comps p)) ps))
-    (λ same. first_kind packed comps tiles t before p none (eqb-true p.sot.tile t same) are.0)
+    (λ same. held_stand First comps p.header (first_kind packed comps tiles t before p none (eqb-true p.sot.tile t same) are.0))
     (λ other. first_stands packed comps tiles t rest (before ++ part_of comps at p ∷ []) (at + length (part_bytes comps p)) ps (none_more t before (part_of comps at p) none other) are.2)
 
 -- a tile's first header is the same, whatever the packet headers of its tile-parts

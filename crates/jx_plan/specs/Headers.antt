@@ -106,6 +106,7 @@ tile_written a comps m n t = record {
   place = 0;
   header = tile_header a comps m t;
   notes = [];
+  has_plt = false;
   progressions = entries_by n (tile_header a comps m t);
   heads = None;
   bodies = [];

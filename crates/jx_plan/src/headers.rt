@@ -236,6 +236,7 @@ fn write_tile(
         place: 0,
         header: Segments::new(header),
         notes: Segments::new(Vec::new(alloc)),
+        has_plt: false,
         progressions,
         heads: Heads::none(),
         bodies: Bodies::new(Vec::new(alloc)),

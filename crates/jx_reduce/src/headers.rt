@@ -156,6 +156,7 @@ fn tile_left(alloc: Global, tile: &Tile, d: u8) -> Result<Tile, NoMemory>
         place: tile.place,
         header,
         notes,
+        has_plt: tile.has_plt,
         progressions,
         heads,
         bodies: Bodies::new(bodies),

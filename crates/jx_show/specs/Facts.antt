@@ -175,7 +175,6 @@ header_facts t ordered segments = joined (topic_facts t ordered segments) 0 5
 
 -- ---- totals
 abbrev pub is_marked : Mark → Segment → Bool
-is_marked mark.Plt (segment.Plt bytes) = true
 is_marked mark.Plm (segment.Plm bytes) = true
 is_marked mark.Ppm (segment.Ppm index bytes) = true
 is_marked mark.Tlm (segment.Tlm bytes) = true
@@ -186,9 +185,9 @@ is_marked _ _ = false
 abbrev pub marked_in : Mark → List Segment → ℕ
 marked_in m segments = length (filter (is_marked m) segments)
 
--- those of a tile: PLT in its first tile-part's header, and comments in all
+-- 1 for a tile with PLT in the header of one of its tile-parts (A.7.3)
 abbrev pub lengths_of_tile : Stream → ℕ → ℕ
-lengths_of_tile s t = marked_in mark.Plt (tile_at s t).header
+lengths_of_tile s t = if (tile_at s t).has_plt then 1 else 0
 
 -- whether a tile's packet headers stand apart from its packets (A.7.4, A.7.5), and the tiles of which they do so in PPT: none where the
 -- main header has as many PPM

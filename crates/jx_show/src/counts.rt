@@ -24,7 +24,6 @@ use std::alloc::Global;
 /// Segments that are counted.
 #[derive(Clone, Copy)]
 pub enum Mark {
-    Plt,
     Plm,
     Ppm,
     Tlm,
@@ -35,7 +34,6 @@ fn is_marked(mark: Mark, segment: &Segment) -> bool
     ensures { result ≡ is_marked mark segment.now }
 {
     match mark {
-        Mark::Plt => matches!(segment, Segment::Plt(_)),
         Mark::Plm => matches!(segment, Segment::Plm(_)),
         Mark::Ppm => matches!(segment, Segment::Ppm { .. }),
         Mark::Tlm => matches!(segment, Segment::Tlm(_)),
@@ -56,13 +54,14 @@ fn marked_in(mark: Mark, segments: &[Segment]) -> u64
     count
 }
 
-/// PLT segments in the header of a tile's first tile-part.
-fn lengths_of_tile(stream: &Stream, tile: u16) -> u64
+/// 1 where PLT stands in the header of one of a tile's tile-parts, else 0.
+fn lengths_of_tile(stream: &Stream, tile: u16) -> u128
     requires range { StreamInRange stream.now }
     requires tile { tile < tile_number stream.now.siz }
-    ensures { result ≡ lengths_of_tile stream.now tile }
+    ensures value { result ≡ lengths_of_tile stream.now tile }
+    ensures most { result ≤ 1 }
 {
-    marked_in(Mark::Plt, stream.tile(tile).header.as_slice())
+    if stream.tile(tile).has_plt { 1 } else { 0 }
 }
 
 /// 1 where the headers of a tile's packets stand apart from its packets, else 0.
@@ -89,14 +88,14 @@ fn comments_of_tile(stream: &Stream, tile: u16) -> u128
     u128::from(marked_in(Mark::Com, tile.header.as_slice())) + tile.notes.as_slice().len() as u128
 }
 
-/// PLT segments in the headers of all tiles' first tile-parts.
+/// The tiles with PLT.
 fn all_lengths(stream: &Stream) -> u128
     requires { StreamInRange stream.now }
     ensures { result ≡ sum_below (lengths_of_tile stream.now) (tile_number stream.now.siz) }
 {
     let mut count = 0;
     for tile in 0..stream.tile_count() {
-        count += u128::from(lengths_of_tile(stream, tile));
+        count += lengths_of_tile(stream, tile);
     }
     count
 }

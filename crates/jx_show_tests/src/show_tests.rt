@@ -65,13 +65,13 @@ const MAIN: &str = "
     FF53 0009 01 00 00 04 04 00 00 FF5D 0006 01 22 4000 FF5E 0005 02 00 03
     FF5F 0010 00 00 0001 01 03 02 01 00 0001 21 00 00 FF64 0006 0001 4A58";
 
-// Tile 0: PLT, and five empty packets with EPH. Tile 1: COD, COC, QCD, RGN and POC of its own; a packet with a byte, then in another
-// tile-part a comment and an empty packet.
+// Tile 0: five empty packets with EPH. Tile 1: COD, COC, QCD, RGN and POC of its own; a packet with a byte, then in another tile-part
+// PLT, a comment and an empty packet.
 const TILES: &str = "
-    FF90 000A 0000 00000023 00 01 FF58 0004 00 01 FF93 00 FF92 00 FF92 00 FF92 00 FF92 00 FF92
+    FF90 000A 0000 0000001D 00 01 FF93 00 FF92 00 FF92 00 FF92 00 FF92 00 FF92
     FF90 000A 0001 00000042 00 02 FF52 000C 00 00 0001 00 00 04 04 00 01 FF53 0009 01 00 00 03 03 00 01
     FF5C 0004 20 48 FF5E 0005 02 00 04 FF5F 0009 00 00 0001 21 00 03 FF93 C0 21 03
-    FF90 000A 0001 00000017 01 02 FF64 0006 0001 4A58 FF93 00 FFD9";
+    FF90 000A 0001 0000001D 01 02 FF58 0004 00 01 FF64 0006 0001 4A58 FF93 00 FFD9";
 
 const MAIN_LINES: &str = "file: codestream
 profile: 0

@@ -28,7 +28,7 @@ mod LeafLemmas
 pub mod CarryLemmas
 mod KeptLemmas
 mod HeadRanges
-pub mod HeadLemmas
+mod HeadLemmas
 mod EitherLemmas
 pub mod FillLemmas
 pub mod PlannedLemmas
@@ -40,5 +40,5 @@ pub mod ListedLemmas
 pub mod CoverEither
 mod PartCuts
 pub mod AnotherLemmas
-pub mod InPlaceLemmas
-pub mod InPlaceTiles
+mod InPlaceLemmas
+mod InPlaceTiles

@@ -12,12 +12,13 @@ use Rattle.jx_codestream.specs.declared.headers.HeaderKind.{HeaderKind}
 use Rattle.jx_codestream.specs.declared.headers.HeaderKind.TheVariants.{First, Later}
 use Rattle.std.proofs.lemmas.Bool.Decides.{nat_tests}
 use Rattle.jx_codestream.specs.declared.parts.PlacedPart.{PlacedPart}
-use Rattle.jx_codestream.specs.Headers.{has_packed, is_packed}
+use Rattle.jx_codestream.specs.Headers.{has_packed, is_packed, without_ppt}
 use Rattle.jx_codestream.specs.PackedHeaders.{both_heads, heads_by, heads_in, heads_of}
 use Rattle.jx_codestream.specs.Tiles.{headers_of, is_com, entries_joined}
 use Rattle.jx_codestream.specs.Parts.{kind_of}
 use Rattle.jx_codestream.specs.Spells.{TilePart, AreSegments, all_bytes, head_bytes, part_bytes, placed}
 use Rattle.jx_codestream.proofs.OneLemmas.{drop_on}
+use Rattle.jx_codestream.proofs.SharesLemmas.{unpacked_whole}
 use Rattle.jx_tier2_reader.specs.Written.{Packets, AreFilled, bytes_from}
 use Rattle.jx_tier2_writer.specs.Told.{length_total}
 use Rattle.jx_tier2_writer.specs.Lengths.{numbered}
@@ -96,29 +97,44 @@ module _ (m : Marks) (comps t : ℕ) (own : List Segment) (ps : Packets) (parts 
   made_long part number [] = refl
   made_long part number (names ∷ groups) = ap suc (made_long (part + 1) (number + length names) groups)
 
+  -- ---- no PPT: the headers are held as they are
+  header_in_place : (part : ℕ) (lengths : List ℕ) → has_packed own ≡ false → has_packed (written_part_header m own part lengths) ≡ false
+  header_in_place part lengths none =
+      ap has_packed (header_is m own part lengths) ∙ list_any-append is_packed (own_at part own) (numbered 0 (held_by m.plt lengths))
+      ∙ (let front : has_packed (own_at part own) ≡ false = at part in
+      let behind : has_packed (numbered 0 (held_by m.plt lengths)) ≡ false = lengths_unpacked 0 (held_by m.plt lengths) in
+      rw (front, behind) refl)
+    where
+      at : (k : ℕ) → has_packed (own_at k own) ≡ false
+      at zero = none
+      at (suc k) = refl
+
+  pub header_whole : (part : ℕ) (lengths : List ℕ) → has_packed own ≡ false → without_ppt (written_part_header m own part lengths) ≡ written_part_header m own part lengths
+  header_whole part lengths none = unpacked_whole (written_part_header m own part lengths) (header_in_place part lengths none)
+
   -- ---- the entries are those of the first header
   header_entries : (part : ℕ) (lengths : List ℕ) → entries_joined (written_part_header m own part lengths) ≡ entries_joined (own_at part own)
   header_entries part lengths =
       ap entries_joined (header_is m own part lengths) ∙ joined_with (own_at part own) (numbered 0 (held_by m.plt lengths)) (lengths_none 0 (held_by m.plt lengths))
 
-  later_entries : (part number at : ℕ) (groups : List (List PacketName)) → 0 < part → entries_joined (headers_of (placed comps at (parts_with m comps t own ps part parts number groups))) ≡ []
-  later_entries part number at [] some = refl
-  later_entries zero number at (names ∷ groups) some = absurd (omega arith)
-  later_entries (suc part) number at (names ∷ groups) some =
+  later_entries : (part number at : ℕ) (groups : List (List PacketName)) → 0 < part → has_packed own ≡ false → entries_joined (headers_of (placed comps at (parts_with m comps t own ps part parts number groups))) ≡ []
+  later_entries part number at [] some unpacked = refl
+  later_entries zero number at (names ∷ groups) some unpacked = absurd (omega arith)
+  later_entries (suc part) number at (names ∷ groups) some unpacked =
       let lengths : List ℕ = map (packet_length ps) names in
       let p : TilePart = tile_part comps t (suc part) parts (written_part_header m own (suc part) lengths) (bytes_from ps number names) in
-      joined_with (written_part_header m own (suc part) lengths) (headers_of (placed comps (at + length (part_bytes comps p)) (parts_with m comps t own ps (suc part + 1) parts (number + length names) groups)))
-      (later_entries (suc part + 1) (number + length names) (at + length (part_bytes comps p)) groups (omega arith))
-      ∙ header_entries (suc part) lengths
+      joined_with (without_ppt (written_part_header m own (suc part) lengths)) (headers_of (placed comps (at + length (part_bytes comps p)) (parts_with m comps t own ps (suc part + 1) parts (number + length names) groups)))
+      (later_entries (suc part + 1) (number + length names) (at + length (part_bytes comps p)) groups (omega arith) unpacked)
+      ∙ ap entries_joined (header_whole (suc part) lengths unpacked) ∙ header_entries (suc part) lengths
 
-  pub made_entries : (number at : ℕ) (groups : List (List PacketName)) → 0 < length groups → entries_joined (headers_of (placed comps at (parts_with m comps t own ps 0 parts number groups))) ≡ entries_joined own
-  made_entries number at [] some = absurd (omega (arith, some))
-  made_entries number at (names ∷ groups) some =
+  pub made_entries : (number at : ℕ) (groups : List (List PacketName)) → 0 < length groups → has_packed own ≡ false → entries_joined (headers_of (placed comps at (parts_with m comps t own ps 0 parts number groups))) ≡ entries_joined own
+  made_entries number at [] some unpacked = absurd (omega (arith, some))
+  made_entries number at (names ∷ groups) some unpacked =
       let lengths : List ℕ = map (packet_length ps) names in
       let p : TilePart = tile_part comps t 0 parts (written_part_header m own 0 lengths) (bytes_from ps number names) in
-      joined_with (written_part_header m own 0 lengths) (headers_of (placed comps (at + length (part_bytes comps p)) (parts_with m comps t own ps 1 parts (number + length names) groups)))
-      (later_entries 1 (number + length names) (at + length (part_bytes comps p)) groups (omega arith))
-      ∙ header_entries 0 lengths
+      joined_with (without_ppt (written_part_header m own 0 lengths)) (headers_of (placed comps (at + length (part_bytes comps p)) (parts_with m comps t own ps 1 parts (number + length names) groups)))
+      (later_entries 1 (number + length names) (at + length (part_bytes comps p)) groups (omega arith) unpacked)
+      ∙ ap entries_joined (header_whole 0 lengths unpacked) ∙ header_entries 0 lengths
 
   -- ---- no COM in later tile-parts
   later_header : (part : ℕ) (lengths : List ℕ) → 0 < part → written_part_header m own part lengths ≡ numbered 0 (held_by m.plt lengths)
@@ -135,23 +151,13 @@ module _ (m : Marks) (comps t : ℕ) (own : List Segment) (ps : Packets) (parts 
       let lengths : List ℕ = map (packet_length ps) names in
       let p : TilePart = tile_part comps t part parts (written_part_header m own part lengths) (bytes_from ps number names) in
       let later : List Segment = headers_of (placed comps (at + length (part_bytes comps p)) (parts_with m comps t own ps (part + 1) parts (number + length names) groups)) in
-      filter-append is_com (written_part_header m own part lengths) later
-      ∙ ap (λ (z : List Segment). filter is_com z ++ filter is_com later) (later_header part lengths some)
+      filter-append is_com (without_ppt (written_part_header m own part lengths)) later
+      ∙ ap (λ (z : List Segment). filter is_com (without_ppt z) ++ filter is_com later) (later_header part lengths some)
+      ∙ ap (λ (z : List Segment). filter is_com z ++ filter is_com later) (unpacked_whole (numbered 0 (held_by m.plt lengths)) (lengths_unpacked 0 (held_by m.plt lengths)))
       ∙ ap (λ (z : List Segment). z ++ filter is_com later) (no_notes 0 (held_by m.plt lengths))
       ∙ made_notes (part + 1) (number + length names) (at + length (part_bytes comps p)) groups (omega arith)
 
-  -- ---- no PPT
-  header_in_place : (part : ℕ) (lengths : List ℕ) → has_packed own ≡ false → has_packed (written_part_header m own part lengths) ≡ false
-  header_in_place part lengths none =
-      ap has_packed (header_is m own part lengths) ∙ list_any-append is_packed (own_at part own) (numbered 0 (held_by m.plt lengths))
-      ∙ (let front : has_packed (own_at part own) ≡ false = at part in
-      let behind : has_packed (numbered 0 (held_by m.plt lengths)) ≡ false = lengths_unpacked 0 (held_by m.plt lengths) in
-      rw (front, behind) refl)
-    where
-      at : (k : ℕ) → has_packed (own_at k own) ≡ false
-      at zero = none
-      at (suc k) = refl
-
+  -- ---- packet headers in their places
   pub made_in_place : (part number at : ℕ) (groups : List (List PacketName)) → has_packed own ≡ false → heads_of (placed comps at (parts_with m comps t own ps part parts number groups)) ≡ None
   made_in_place part number at [] none = refl
   made_in_place part number at (names ∷ groups) none =

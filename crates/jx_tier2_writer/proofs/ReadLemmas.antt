@@ -22,6 +22,7 @@ use Rattle.jx_codestream.specs.Params.{header_in, header_of, limit_4_of, tile_ha
 use Rattle.jx_codestream.specs.Parts.{parts_of}
 use Rattle.jx_codestream.specs.Read.{IsRead}
 use Rattle.jx_codestream.specs.Shapes.{no_tile, tile_at}
+use Rattle.jx_codestream.specs.Headers.{has_packed}
 use Rattle.jx_codestream.specs.PackedHeaders.{shares_fault, with_shares}
 use Rattle.jx_codestream.specs.Spells.{AreTileParts, TilePart, all_bytes, file_bytes, first_sot, main_packed, main_start, part_bytes, placed}
 use Rattle.jx_codestream.specs.Tiles.{entry_in, first_header, headers_of, in_slot, is_com, or_list, progressions_of, tile_from, tile_of, tiles_of}
@@ -41,7 +42,7 @@ use Rattle.jx_tier2_writer.proofs.FewLemmas.{few_packets, groups_few}
 use Rattle.jx_tier2_writer.proofs.HeaderLemmas.{same_slots}
 use Rattle.jx_tier2_writer.proofs.InPlaceLemmas.{none_packed}
 use Rattle.jx_plan.specs.Changes.{entries_by, main_order}
-use Rattle.jx_tier2_writer.proofs.MadeLemmas.{header_is, made_entries, made_filled, made_in_place, made_long, made_notes, made_of}
+use Rattle.jx_tier2_writer.proofs.MadeLemmas.{header_is, header_whole, made_entries, made_filled, made_in_place, made_long, made_notes, made_of}
 use Rattle.jx_tier2_writer.proofs.PlaceLemmas.{AllOf, exact_all, none_lacks, parts_here, place_of, some_part, tile_bytes}
 use Rattle.jx_tier2_writer.proofs.TurnLemmas.{AreOf, exact_parts}
 use Rattle.jx_plan.proofs.PlanLemmas.{some_tile}
@@ -86,10 +87,12 @@ unfolding tile_planes
 planes_of_alike main comps tile other alike = all_planes_alike tile.header other.header alike main comps
 
 -- ---- the first header
-first_made : (m : Marks) (comps t : ℕ) (own : List Segment) (ps : Packets) (parts at : ℕ) (groups : List (List PacketName)) → 0 < length groups
+first_made : (m : Marks) (comps t : ℕ) (own : List Segment) (ps : Packets) (parts at : ℕ) (groups : List (List PacketName)) → 0 < length groups → has_packed own ≡ false
     → (held : List (List ℕ)) × (first_header (placed comps at (parts_with m comps t own ps 0 parts 0 groups)) ≡ own ++ numbered 0 held)
-first_made m comps t own ps parts at [] some = absurd (omega arith)
-first_made m comps t own ps parts at (names ∷ groups) some = (held_by m.plt (map (packet_length ps) names), header_is m own 0 (map (packet_length ps) names))
+first_made m comps t own ps parts at [] some unpacked = absurd (omega arith)
+first_made m comps t own ps parts at (names ∷ groups) some unpacked =
+    let lengths : List ℕ = map (packet_length ps) names in
+    (held_by m.plt lengths, header_whole m comps t own ps parts 0 lengths unpacked ∙ header_is m own 0 lengths)
 
 notes_made : (m : Marks) (comps t : ℕ) (own : List Segment) (ps : Packets) (parts at : ℕ) (groups : List (List PacketName))
     → filter is_com (headers_of (drop 1 (placed comps at (parts_with m comps t own ps 0 parts 0 groups)))) ≡ []
@@ -164,7 +167,7 @@ module _ (m : Marks) (s : Stream) (blocks : List Block) (b : List ℕ) (parts : 
   -- ---- the same parameters
   first_alike : (t : ℕ) → t < tiles → AreAlike (first_header (own_parts t)) (header_of s t)
   first_alike t lt slot some =
-      let found = first_made m comps t (header_of s t) (packets_of m s t blocks) (length (groups t)) (place_of comps parts start t) (groups t) (cut t lt).some in
+      let found = first_made m comps t (header_of s t) (packets_of m s t blocks) (length (groups t)) (place_of comps parts start t) (groups t) (cut t lt).some (ready.tiles t lt).in_place in
       ap (λ (z : List Segment). in_slot slot z) found.1 ∙ same_slots slot 0 (header_of s t) found.0 some
 
   header_now : (t : ℕ) → t < tiles → header_in (slice_get it.tiles t) ≡ first_header (own_parts t)
@@ -203,12 +206,12 @@ module _ (m : Marks) (s : Stream) (blocks : List Block) (b : List ℕ) (parts : 
   progressions_same t lt =
       ap (λ (x : Tile). x.progressions) (tile_is t lt)
       ∙ entries_are s.main (own_parts t) (header_of s t)
-      (made_entries m comps t (header_of s t) (packets_of m s t blocks) (length (groups t)) 0 (place_of comps parts start t) (groups t) (cut t lt).some) (first_alike t lt 1 (omega arith))
+      (made_entries m comps t (header_of s t) (packets_of m s t blocks) (length (groups t)) 0 (place_of comps parts start t) (groups t) (cut t lt).some (ready.tiles t lt).in_place) (first_alike t lt 1 (omega arith))
       ∙ sym (ready.tiles t lt).progressions
 
   pub header_with : (t : ℕ) → t < tiles → IsWithLengths (header_of s t) (header_of it t)
   header_with t lt =
-      let found = first_made m comps t (header_of s t) (packets_of m s t blocks) (length (groups t)) (place_of comps parts start t) (groups t) (cut t lt).some in
+      let found = first_made m comps t (header_of s t) (packets_of m s t blocks) (length (groups t)) (place_of comps parts start t) (groups t) (cut t lt).some (ready.tiles t lt).in_place in
       (found.0, header_now t lt ∙ found.1)
 
   pub no_notes : (t : ℕ) → t < tiles → (tile_at it t).notes ≡ []

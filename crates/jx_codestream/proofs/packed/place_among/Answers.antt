@@ -1,7 +1,3 @@
-use Rattle.std.proofs.Common.{◌≤◌, sym, arith, nat_lt}
-use Rattle.std.proofs.lemmas.Bool.Decides.{nat_tests}
-use Rattle.std.proofs.lemmas.List.Sums.{position_or_len_is}
-use Rattle.jx_codestream.specs.declared.packed.PackedSegment.{PackedSegment}
 use Rattle.jx_codestream.proofs.PackedLemmas.{first_passes, none_passes}
 use Rattle.jx_codestream.proofs.packed.place_among.Goals as goal
 

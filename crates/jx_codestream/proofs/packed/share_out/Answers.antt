@@ -1,4 +1,4 @@
-use Rattle.std.proofs.Common.{◌≡◌, ◌∙◌, ◌<◌, ◌≤◌, List, [], None, length, arith, refl, sym, set, get_or}
+use Rattle.std.proofs.Common.{◌∙◌, ◌<◌, ◌≤◌, [], None, length, arith, refl, sym, set}
 use Rattle.std.proofs.lemmas.List.{length-set}
 use Rattle.jx_codestream.specs.declared.parts.PlacedPart.{PlacedPart}
 use Rattle.jx_codestream.specs.PackedHeaders.{shared_out, shares_fit}

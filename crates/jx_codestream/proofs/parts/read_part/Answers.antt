@@ -8,6 +8,7 @@ use Rattle.jx_codestream.specs.PackedHeaders.{heads_by, heads_in}
 use Rattle.jx_codestream.specs.Parts.{sot_in, after_sot, kind_of, part_header, sot_fault, sod_fault, tables_say}
 use Rattle.jx_codestream.proofs.FaultLemmas.{cause_same}
 use Rattle.jx_codestream.proofs.PartLemmas.{part_start, part_sot, part_head, part_sod, part_none, part_is, header_same, header_fault_same}
+use Rattle.jx_codestream.proofs.SharesLemmas.{none_whole}
 use Rattle.jx_codestream.proofs.parts.read_part.Goals as goal
 
 pub returns-in_err-sot-clause-answer : goal.returns-in_err-sot-clause-answer
@@ -52,6 +53,12 @@ returns-clause-answer c =
           c.in_ok-sot.ensures.answer.0 (subst P c.in_ok-sot.ensures.answer.1.0 c.in_ok-check_sot.ensures.answer.0)
           (sym (header_fault_same c.args.packed c.args.comps c.args.bytes.now c.args.at c.in_ok-sot.sot c.in_ok-sot.next c.kind_of-kind.result c.in_ok-sot.ensures.answer.1.0 c.in_ok-sot.ensures.answer.1.1 c.kind_of-kind.ensures) ∙ c.in_ok-header.ensures.answer.0)
           (sym (ap (λ (s : Sot). sod_fault c.args.bytes.now c.args.at s c.in_ok-header.header.end) c.in_ok-sot.ensures.answer.1.0 ∙ ap (λ (h : Header). sod_fault c.args.bytes.now c.args.at (sot_in c.args.bytes.now c.args.at) h.end) head) ∙ c.in_ok-end.ensures.answer.0),
-      part_is c.args.packed c.args.comps c.args.bytes.now c.args.at c.in_ok-sot.sot c.in_ok-header.header c.in_ok-end.end c.in_ok-heads.heads c.in_ok-sot.ensures.answer.1.0 head c.in_ok-end.ensures.answer.1.0
+      part_is c.args.packed c.args.comps c.args.bytes.now c.args.at c.in_ok-sot.sot c.in_ok-header.header c.in_ok-rest.rest c.in_ok-end.end c.in_ok-heads.heads c.in_ok-sot.ensures.answer.1.0 head
+          c.in_ok-rest.ensures c.in_ok-end.ensures.answer.1.0
           (c.in_ok-heads.ensures ∙ ap heads_by (c.deref.ensures.value ∙ c.in_ok-header.ensures.packed) ∙ ap (λ (n : ℕ). heads_in c.args.comps n c.in_ok-header.header.segments) c.in_ok-sot.ensures.answer.1.1),
     )
+
+-- without PPM and PPT nothing is dropped
+pub without_ppt-requires : goal.without_ppt-requires
+without_ppt-requires c = λ none.
+    none_whole c.args.comps c.in_ok-sot.next c.in_ok-header.header.segments (sym c.in_ok-header.ensures.packed ∙ sym c.deref-2.ensures.value ∙ none)

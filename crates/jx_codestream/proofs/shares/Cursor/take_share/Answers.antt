@@ -1,7 +1,7 @@
-use Rattle.std.proofs.Common.{◌≡◌, ◌∙◌, ◌≤◌, List, ℕ, length, sym, ap, subst, arith}
+use Rattle.std.proofs.Common.{◌≡◌, ◌∙◌, List, ℕ, length, sym, ap, subst, arith}
 use Rattle.byteorder.specs.Endian.{big_from}
 use Rattle.jx_codestream.specs.declared.Body.{Body}
-use Rattle.jx_codestream.specs.PackedHeaders.{LieIn, after_bytes, joined_bytes, share_size}
+use Rattle.jx_codestream.specs.PackedHeaders.{LieIn, joined_bytes, share_size}
 use Rattle.jx_codestream.proofs.PieceLemmas.{after_lies, first_lies, lie_fit, rest_same, share_ends, share_is_there, share_lies, share_same, share_starts}
 use Rattle.jx_codestream.proofs.shares.Cursor.take_share.Goals as goal
 
