@@ -1,6 +1,6 @@
 -- Headers with a POC put in, or with another POC, say the same as without, but for the order of packets.
-use Rattle.std.proofs.Common.{◌≡◌, ◌∙◌, ◌==◌, ◌||◌, ◌++◌, ℕ, true, false, not, arith, List, [], ◌∷◌, map, take, drop, length, refl, sym, ap, nat_lt, Option, Some, None, inl, inr}
-use Rattle.std.specs.List.{All, filter, list_any}
+use Rattle.std.proofs.Common.{◌≡◌, ◌∙◌, ◌==◌, ◌||◌, ◌++◌, ℕ, true, false, arith, List, [], ◌∷◌, map, take, drop, refl, sym, ap, Option, Some, None, inl, inr}
+use Rattle.std.specs.List.{list_any}
 use Rattle.std.specs.Option.{option_or, option_map}
 use Rattle.std.proofs.lemmas.Bool.{cases_Bool}
 use Rattle.std.proofs.lemmas.Bool.Decides.{nat_tests}

@@ -1,6 +1,6 @@
 -- The entries of headers that stand are in range.
-use Rattle.std.proofs.Common.{◌≡◌, ◌∙◌, ◌⊎◌, ◌<◌, ◌≤◌, ◌+◌, ◌-◌, ◌*◌, ◌/◌, ◌^◌, ◌==◌, ◌&&◌, ◌||◌, not, ℕ, zero, suc, Bool, true, false, arith, List, [], ◌∷◌, ◌++◌, map, take, length, nat_lt, nat_le, refl, sym, ap, subst, inl, inr, Option, Some, None, cond}
-use Rattle.std.specs.List.{All, filter, list_all, list_any}
+use Rattle.std.proofs.Common.{◌≡◌, ◌⊎◌, ◌<◌, ◌≤◌, ◌+◌, ◌*◌, ◌^◌, ◌==◌, ◌&&◌, ◌||◌, ℕ, suc, Bool, true, false, arith, List, [], ◌∷◌, map, take, length, nat_lt, refl, ap, subst, inl, inr, Option, Some, None, cond}
+use Rattle.std.specs.List.{All, filter, list_all}
 use Rattle.std.specs.Option.{IfSome}
 use Rattle.std.proofs.lemmas.Bool.{cases_Bool, cases_lt}
 use Rattle.std.proofs.lemmas.Bool.Decides.{nat_tests}

@@ -130,8 +130,12 @@ header_left a comps m t h =
 main_left : (a : HeaderOptions) (comps : ℕ) (main : List Segment) → list_any is_left_out (main_written a comps main) ≡ false
 main_left a comps main =
     list_any-append is_left_out (all_written a (take (coding_end main) main)) _
-    ∙ rw (none_left a (take (coding_end main) main), list_any-append is_left_out (poc_of (volumes_written comps a.wanted.changes)) (all_written a (drop (coding_end main) main)),
-    none_left a (drop (coding_end main) main), plain (volumes_written comps a.wanted.changes)) refl
+    ∙ rw (
+      none_left a (take (coding_end main) main),
+      list_any-append is_left_out (poc_of (volumes_written comps a.wanted.changes)) (all_written a (drop (coding_end main) main)),
+      none_left a (drop (coding_end main) main),
+      plain (volumes_written comps a.wanted.changes),
+    ) refl
   where
     plain : (es : List Progression) → list_any is_left_out (poc_of es) ≡ false
     plain [] = refl

@@ -112,9 +112,9 @@ module _ (w : Wanted) (layers : ℕ) (s other : Stream) (stand : HeadersStand s)
   none_placed none = record {
     comps = ap (has_outside (length s.siz.comps)) none;
     each = λ t inside. record {
-          room = ap (λ (o : Option (List Progression)). has_long (length s.siz.comps) o (main_order s.main) (tile_at s t)) none;
-          whole = written_whole (with_layers w layers) s t (may_ask w layers wanted some few) none fits.above stand range inside;
-        };
+      room = ap (λ (o : Option (List Progression)). has_long (length s.siz.comps) o (main_order s.main) (tile_at s t)) none;
+      whole = written_whole (with_layers w layers) s t (may_ask w layers wanted some few) none fits.above stand range inside;
+    };
   }
 
 pub few_made : (w : Wanted) (layers : ℕ) (s other : Stream) → other ≡ headers_with w layers s → ((t : ℕ) → t < tile_number other.siz → HasFewParts w.marks.parts other t)

@@ -1,11 +1,9 @@
 -- A header stays one where a POC is put into it that it hasn't, or in place of its own.
-use Rattle.std.proofs.Common.{◌≡◌, ◌∙◌, ◌<◌, ◌+◌, ◌%◌, ◌^◌, ◌==◌, ◌&&◌, ℕ, Bool, true, false, arith, List, [], ◌∷◌, ◌++◌, map, take, drop, length, nat_lt, refl, sym, ap, subst, Option, Some, None, inl, inr, append-nil}
-use Rattle.std.specs.List.{All, list_any}
+use Rattle.std.proofs.Common.{◌≡◌, ◌∙◌, ◌==◌, ◌&&◌, ℕ, Bool, true, false, arith, List, [], ◌∷◌, ◌++◌, map, take, drop, nat_lt, refl, sym, ap, subst, Option, Some, None, inl, inr, append-nil}
+use Rattle.std.specs.List.{list_any}
 use Rattle.std.proofs.lemmas.Bool.{cases_Bool, or_parts}
 use Rattle.std.proofs.lemmas.Bool.Decides.{nat_tests}
 use Rattle.std.proofs.lemmas.List.{append_assoc, take-append-drop}
-use Rattle.std.proofs.lemmas.List.Elements.{All-head, All-tail}
-use Rattle.std.proofs.lemmas.List.Folds.{list_any-append}
 use Rattle.jx_marker.specs.declared.Progression.{Progression}
 use Rattle.jx_marker.specs.declared.Segment.{Segment}
 use Rattle.jx_marker.specs.declared.Segment.TheVariants as segment
@@ -68,9 +66,10 @@ beside : (kind : HeaderKind) (comps : ℕ) (xs ys ss : List Segment) → list_an
     → ((slot : ℕ) → (3 == slot) ≡ false → has_slot slot ys ≡ false → has_slot slot xs ≡ false) → AreSegments kind comps ys ss → AreSegments kind comps xs ss
 beside kind comps xs ys [] none f are = tt
 beside kind comps xs ys (s ∷ ss) none f are =
-    let e = or_parts (is_poc s) (list_any is_poc ss) none in
-    (record { range = are.0.range; stands = are.0.stands; once_packed = are.0.once_packed; inside = are.0.inside; once = once_beside xs ys s e.0 f are.0.once },
-    beside kind comps (xs ++ s ∷ []) (ys ++ s ∷ []) ss e.1 (beside_more xs ys s f) are.1)
+    let e = or_parts (is_poc s) (list_any is_poc ss) none in (
+      record { range = are.0.range; stands = are.0.stands; once_packed = are.0.once_packed; inside = are.0.inside; once = once_beside xs ys s e.0 f are.0.once },
+      beside kind comps (xs ++ s ∷ []) (ys ++ s ∷ []) ss e.1 (beside_more xs ys s f) are.1,
+    )
 
 poc_segment : (kind : HeaderKind) (comps : ℕ) (before : List Segment) (es : List Progression) → stands_in kind (segment.Poc es) ≡ true → is_beside_ppm kind ≡ false
     → has_slot 3 before ≡ false → PocInRange comps es → IsSegment kind comps before (segment.Poc es)

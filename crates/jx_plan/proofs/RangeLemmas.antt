@@ -2,17 +2,13 @@
 use Rattle.std.proofs.Common.{◌≡◌, ◌∙◌, ◌<◌, ℕ, false, arith, List, [], ◌∷◌, map, length, get_or, refl, sym, ap, subst, nat_lt, Option, Some, None, inl, inr, ◌^◌}
 use Rattle.std.specs.Prelude.{IfSome}
 use Rattle.std.specs.List.{All, find, flat_map}
-use Rattle.std.specs.Option.{option_or, option_map}
 use Rattle.std.proofs.lemmas.Bool.{cases_Bool}
 use Rattle.std.proofs.lemmas.List.{get_or-map, length-map}
-use Rattle.std.proofs.lemmas.Option.{slice_get-get_or}
 use Rattle.std.proofs.lemmas.List.Elements.{All-nil, All-head, All-tail, All-map, All-weaker}
 use Rattle.jx_base.specs.OrderNumbers.{IsOrderNumber}
 use Rattle.jx_base.specs.declared.style.Style.{Style}
 use Rattle.jx_marker.specs.declared.Segment.{Segment}
-use Rattle.jx_marker.specs.declared.Segment.TheVariants as segment
 use Rattle.jx_marker.specs.declared.Siz.{Siz}
-use Rattle.jx_marker.specs.declared.Cod.{Cod}
 use Rattle.jx_marker.specs.declared.Shape.{Shape}
 use Rattle.jx_marker.specs.declared.Progression.{Progression}
 use Rattle.jx_marker.specs.Ranges.{SizInRange}
@@ -22,7 +18,7 @@ use Rattle.jx_geom.specs.Geometry.{Geometry, ShapesInRange, HasResolution, no_sh
 use Rattle.jx_codestream.specs.declared.headers.HeaderKind.TheVariants.{Main, First}
 use Rattle.jx_codestream.specs.declared.Tile.{Tile}
 use Rattle.jx_codestream.specs.declared.Stream.{Stream}
-use Rattle.jx_codestream.specs.Params.{cod_in, tile_has_too_few, tile_planes, limit_4_of, cod_of, shape_or, shape_at, params_of, precincts_of, header_in, header_of}
+use Rattle.jx_codestream.specs.Params.{tile_has_too_few, tile_planes, limit_4_of, shape_or, shape_at, params_of, precincts_of}
 use Rattle.jx_codestream.specs.First.{tiles_fault, lacks_default}
 use Rattle.jx_codestream.specs.Spells.{AreSegments}
 use Rattle.jx_codestream.specs.Shapes.{geometry, shape_in, shapes_of, size_of, no_size, style_of, tile_at, no_tile}

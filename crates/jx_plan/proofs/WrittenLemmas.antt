@@ -119,8 +119,11 @@ unfolding stream_written
 stream_is a s siz main tiles e f g =
     ap (λ (x : Siz). let y : Stream = record { siz = x; main = main; tiles = tiles } in y) e
     ∙ ap (λ (x : List Tile). let y : Stream = record { siz = record s.siz { rsiz = rsiz_written a.wanted.rsiz s.siz.rsiz }; main = main; tiles = x } in y) g
-    ∙ ap (λ (x : List Segment). let y : Stream = record { siz = record s.siz { rsiz = rsiz_written a.wanted.rsiz s.siz.rsiz }; main = x;
-    tiles = map (tile_written a (length s.siz.comps) (main_order s.main) (main_order x)) s.tiles } in y) f
+    ∙ ap (λ (x : List Segment). let y : Stream = record {
+      siz = record s.siz { rsiz = rsiz_written a.wanted.rsiz s.siz.rsiz };
+      main = x;
+      tiles = map (tile_written a (length s.siz.comps) (main_order s.main) (main_order x)) s.tiles;
+    } in y) f
 
 -- tiles with their orders
 pub tiles_same : (a : HeaderOptions) (comps : ℕ) (m n read made : MainOrder) (xs ys : List Tile) → m ≡ read → n ≡ made → xs ≡ ys

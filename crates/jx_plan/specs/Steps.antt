@@ -1,8 +1,6 @@
 -- What the steps of a plan answer, and what stands between them.
 use Rattle.std.specs.Prelude.{◌≡◌, ◌⊎◌, ◌<◌, ◌≤◌, ℕ, Bool, true, false, List, Option, None, Some}
 use Rattle.std.specs.List.{list_any}
-use Rattle.jx_marker.specs.declared.Segment.{Segment}
-use Rattle.jx_marker.specs.declared.Segment.TheVariants as segment
 use Rattle.jx_codestream.specs.declared.Stream.{Stream}
 use Rattle.jx_codestream.specs.Params.{header_of}
 use Rattle.jx_tile.specs.Totals.{packet_total}

@@ -119,7 +119,11 @@ impl MainOrder {
     }
 
     /// The entries of a tile with this header, where it has no POC of its own.
-    pub(crate) fn entries_without(&self, alloc: Global, header: &[Segment]) -> Result<Entries, NoMemory>
+    pub(crate) fn entries_without(
+        &self,
+        alloc: Global,
+        header: &[Segment],
+    ) -> Result<Entries, NoMemory>
         ensures { IfOk result (λ entries. entries ≡ entries_without self.now header.now) }
     {
         if !self.joined.as_slice().is_empty() {

@@ -158,7 +158,8 @@ fn push_written(
     layers: u16,
     into: &mut Vec<Segment>,
 ) -> Result<(), NoMemory>
-    ensures { OnOk result (into.new.items ≡ into.old.items ++ all_written (with_layers options.now layers) segments.now) }
+    ensures { OnOk result (into.new.items
+        ≡ into.old.items ++ all_written (with_layers options.now layers) segments.now) }
 {
     for segment in segments {
         if is_written(segment, options) {
@@ -228,7 +229,8 @@ fn write_tile(
     read: &MainOrder,
     written: &MainOrder,
 ) -> Result<Tile, NoMemory>
-    ensures { IfOk result (λ copy. copy ≡ tile_written (with_layers options.now layers) comps read.now written.now tile.now) }
+    ensures { IfOk result (λ copy. copy
+        ≡ tile_written (with_layers options.now layers) comps read.now written.now tile.now) }
 {
     let header = write_header(alloc, tile, comps, options, layers, read)?;
     let progressions = written.entries_by(alloc, &header)?;
@@ -252,7 +254,8 @@ fn write_tiles(
     read: &MainOrder,
     written: &MainOrder,
 ) -> Result<Vec<Tile>, NoMemory>
-    ensures { IfOk result (λ copies. copies.items ≡ map (tile_written (with_layers options.now layers) comps read.now written.now) tiles.now) }
+    ensures { IfOk result (λ copies. copies.items
+        ≡ map (tile_written (with_layers options.now layers) comps read.now written.now) tiles.now) }
 {
     let mut copies = Vec::new(alloc);
     for tile in tiles {
@@ -271,11 +274,21 @@ fn tiles_under(
     options: &Options,
     layers: u16,
 ) -> Result<Vec<Tile>, NoMemory>
-    ensures { IfOk result (λ copies. copies.items ≡ map (tile_written (with_layers options.now layers) comps (main_order stream.now.main) (main_order main.now)) stream.now.tiles) }
+    ensures { IfOk result (λ copies. copies.items
+        ≡ map (tile_written (with_layers options.now layers) comps (main_order stream.now.main) (main_order main.now))
+        stream.now.tiles) }
 {
     let read = MainOrder::new(alloc, stream.main.as_slice())?;
     let written = MainOrder::new(alloc, main)?;
-    write_tiles(alloc, stream.tiles.as_slice(), comps, options, layers, &read, &written)
+    write_tiles(
+        alloc,
+        stream.tiles.as_slice(),
+        comps,
+        options,
+        layers,
+        &read,
+        &written,
+    )
 }
 
 /// The profile that is claimed: none, or the input's.

@@ -84,9 +84,16 @@ fn tile_has_long(
     requires order { order.now ≡ main_order stream.now.main }
     requires own { StreamInRange stream.now }
     requires tile { tile < tile_number stream.now.siz }
-    ensures { IfOk result (λ long. long ≡ has_long (length stream.now.siz.comps) options.now.changes (main_order stream.now.main) (tile_at stream.now tile)) }
+    ensures { IfOk result (λ long. long
+        ≡ has_long (length stream.now.siz.comps) options.now.changes (main_order stream.now.main) (tile_at stream.now tile)) }
 {
-    has_long(alloc, comp_count(stream), &options.poc, order, stream.tile(tile))
+    has_long(
+        alloc,
+        comp_count(stream),
+        &options.poc,
+        order,
+        stream.tile(tile),
+    )
 }
 
 /// A tile has no packet without a volume, and its own entries have room in a POC segment.
@@ -128,7 +135,8 @@ fn first_stray(
     requires range { StreamInRange written.now }
     requires totals { totals_fault written.now ≡ None }
     requires own { StreamInRange stream.now }
-    ensures { IfOk result (λ first. MatchOption first ((t : ℕ) → t < tile_number stream.now.siz → HasNoStrayIn stream.now options.now layers t)
+    ensures { IfOk result (λ first. MatchOption first
+        ((t : ℕ) → t < tile_number stream.now.siz → HasNoStrayIn stream.now options.now layers t)
         (λ tile. IsFirstStray stream.now options.now layers tile)) }
 {
     let main = written.main_view(alloc)?;
