@@ -10,7 +10,9 @@ fn picture(place: u32) -> &'static str
     ensures { result.now ≡ picture_words place }
 {
     match place {
-        1 => { "its picture is over 2048 by 1080,\n    or 4096 by 2160 for profile 4; that is the input's: use --rsiz zero" }
+        1 => {
+            "its picture is over 2048 by 1080,\n    or 4096 by 2160 for profile 4; that is the input's: use --rsiz zero"
+        }
         2 => { "its picture or its tiles have offsets;\n    that is the input's: use --rsiz zero" }
         3 => { "it has more than one tile;\n    that is the input's: use --rsiz zero" }
         4 => {
@@ -34,11 +36,17 @@ fn coding(place: u32) -> &'static str
         9 => {
             "its precincts aren't 128 by 128\n    at the lowest resolution and 256 by 256 above: add --precincts 7x7,8x8"
         }
-        10 => { "its packets stand in another order:\n    add --order cprl, or for profile 4 and L levels\n    --poc 0,0,1,L,3,cprl/L,0,1,L+1,3,cprl" }
+        10 => {
+            "its packets stand in another order:\n    add --order cprl, or for profile 4 and L levels\n    --poc 0,0,1,L,3,cprl/L,0,1,L+1,3,cprl"
+        }
         11 => { "it has more than one layer:\n    add --layers one" }
-        12 => { "its components don't have the same levels,\n    at most five, or one to six for profile 4;\n    that is the input's: use --rsiz zero" }
+        12 => {
+            "its components don't have the same levels,\n    at most five, or one to six for profile 4;\n    that is the input's: use --rsiz zero"
+        }
         13 => { "its wavelet isn't the 9-7 one;\n    that is the input's: use --rsiz zero" }
-        _ => { "it hasn't one guard bit, or two for profile 4;\n    that is the input's: use --rsiz zero" }
+        _ => {
+            "it hasn't one guard bit, or two for profile 4;\n    that is the input's: use --rsiz zero"
+        }
     }
 }
 

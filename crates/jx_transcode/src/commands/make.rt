@@ -19,7 +19,9 @@ use jx_base::Style;
 use jx_cli::Make;
 use jx_io::{Gate, Sink};
 use jx_layers::LayerPlanner;
-use jx_options::{Marks, Options, OrderChoice, PocChoice, PartChoice, PrecinctChoice, RsizChoice, Work};
+use jx_options::{
+    Marks, Options, OrderChoice, PartChoice, PocChoice, PrecinctChoice, RsizChoice, Work,
+};
 use jx_rounds::{Crew, TapeEntry};
 use std::alloc::{AllocError, Global};
 use std::sync::Wait;
