@@ -1,4 +1,4 @@
--- Why a profile can't be kept, in words, with what to ask instead: by the number of the condition of profile 3 or 4 that fails.
+-- Why a profile can't be kept, in words, with what to ask instead: by the number of its condition that fails.
 use Rattle.std.specs.Prelude.{ℕ, ◌==◌, nat_le, ◌++◌, codes, if◌then◌else◌}
 use Rattle.jx_messages.specs.Text.{Text}
 

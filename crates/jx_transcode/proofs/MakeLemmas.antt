@@ -159,7 +159,7 @@ made_read m rule s late blocks before after total entries line fault_before faul
 
 -- ---- what is asked may be asked
 pub wanted_may : (w : Wanted) → w ≡ wanted_made → MayBeWanted w
-wanted_may w same = rw same (record { order = omega arith; bytes = tt; style = record { few = omega arith; free = refl } })
+wanted_may w same = rw same (record { order = omega arith; changes = inl refl; bytes = tt; style = record { few = omega arith; free = refl } })
 
 pub work_may : (w : Work) → w ≡ work_made → MayBeWork w
 work_may w same =

@@ -76,8 +76,9 @@ late_tile s w layers number place (inr (inl ten)) two = omega (arith, ten.0, two
 late_tile s w layers number place (inr (inr eleven)) two = omega (arith, eleven.0, two)
 
 by_tile : (r : Rule) (s : Stream) (blocks : List Block) (w : Wanted) (e : PlanFault) → IsUnplannedBy r s blocks w e → HasTile s e
-by_tile r s blocks w (unplanned.Choice number place) (inl crowded) = λ two. absurd (omega (arith, crowded.0, two))
-by_tile r s blocks w (unplanned.Choice number place) (inr late) = λ two. absurd (late_tile s w (layers_of_rule r s blocks) number place late.cause two)
+by_tile r s blocks w (unplanned.Choice number place) (inl stray) = λ two. absurd (omega (arith, stray.0, two))
+by_tile r s blocks w (unplanned.Choice number place) (inr (inl crowded)) = λ two. absurd (omega (arith, crowded.0, two))
+by_tile r s blocks w (unplanned.Choice number place) (inr (inr late)) = λ two. absurd (late_tile s w (layers_of_rule r s blocks) number place late.cause two)
 by_tile r s blocks w (unplanned.Limit number found) is = tt
 by_tile r s blocks w unplanned.NoMemory is = tt
 
