@@ -67,7 +67,7 @@ judged_short limit input s short (inr (jp2, inr found)) =
     judged_inner limit input (content input found.1) found.1.from own.own (inr (jp2, found.1, found.2, refl, refl)) short own.verdict
 
 any_may : (limit : ℕ) → limit ≤ most_bytes → MayBeAimed (any_aim limit)
-any_may limit few = record { may = record { order = tt; bytes = tt; style = tt }; limit = few; layers = λ facts. tt }
+any_may limit few = record { may = record { order = tt; changes = inl refl; bytes = tt; style = tt }; limit = few; layers = λ facts. tt }
 
 module _ (some : (aim : Aim) (input : List ℕ) → MayBeAimed aim → AreBytes input → (s : Status) × FileVerdict aim input s) (limit : ℕ) (few : limit ≤ most_bytes) where
   judged : (input : List ℕ) → AreBytes input → IsJudged limit input
