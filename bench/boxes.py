@@ -2,12 +2,16 @@
 """Times the program on JP2 files of many boxes, and of the largest content.
 
 usage: bench/boxes.py [--runs N] PROGRAM [PROGRAM ..]
+       bench/boxes.py --long BYTES PROGRAM
 
 Makes in a temporary folder a JP2 file with so many empty boxes before the codestream's, one with so many in its JP2 header box (`jp2h`), and
 ones whose codestream's box goes up to the file's end and has so many bytes (a small codestream, and zeros behind its end). Runs each program
 on each of them in turn, five times or N: `PROGRAM boxes IN` and `PROGRAM transcode IN OUT`. Prints the medians of the processor's seconds,
 and the most memory that a run took beside that of the smallest file, in files. Python's standard library
 and `/usr/bin/time` are needed.
+
+With --long it makes one file, whose codestream's box has so many bytes (say 1073741900, over 2^30) and stands before another box, and looks
+at what is written of it. The machine needs memory for three such files. Ends with 1 where it isn't as it should be.
 """
 
 import os
@@ -44,6 +48,25 @@ def files():
         yield f"a content of {count - 40 - len(front):,} bytes up to the end", front + box(b"jp2c", SMALL.ljust(count - 8 - len(front), b"\0"), 0)
 
 
+def long_box(count, program):
+    """Returns whether a file whose codestream's box has so many bytes is written without those behind the codestream's end."""
+    front, behind = SIGNATURE + TYPE, box(b"free", b"behind")
+    with tempfile.TemporaryDirectory() as folder:
+        source, out = os.path.join(folder, "in.jp2"), os.path.join(folder, "out.jp2")
+        with open(source, "wb") as file:
+            file.write(front + box(b"jp2c", SMALL, count))
+            file.seek(len(front) + count)
+            file.write(behind)
+        ran = subprocess.run([program, "transcode", source, out, "--limit-bytes", "4294967295"], stdin=subprocess.DEVNULL, capture_output=True, check=False)
+        made = b""
+        if ran.returncode == 0:
+            with open(out, "rb") as file:
+                made = file.read()
+    holds = made == front + box(b"jp2c", SMALL) + behind
+    print(f"a box of {count:,} bytes: {'as it should be' if holds else f'{ran.returncode} {ran.stdout} {len(made)} bytes'}")
+    return holds
+
+
 def run(words):
     """The processor's seconds of a run, and the most memory in KiB."""
     ran = subprocess.run(["/usr/bin/time", "-f", "%U %S %M", *words], stdin=subprocess.DEVNULL, stdout=subprocess.DEVNULL, stderr=subprocess.PIPE, check=True)
@@ -53,6 +76,8 @@ def run(words):
 
 def main(words):
     runs = 5
+    if words[:1] == ["--long"] and len(words) == 3:
+        sys.exit(0 if long_box(int(words[1]), words[2]) else 1)
     if words[:1] == ["--runs"]:
         runs, words = int(words[1]), words[2:]
     if not words:
